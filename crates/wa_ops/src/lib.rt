@@ -1,10 +1,19 @@
 //! WebAssembly instructions and their trees, with the definitions that the checks and the interpreter share.
 #![tactic(auto)]
 
+mod call_no;
 mod items;
+mod modules;
 mod op;
+mod opcode;
 mod sequence;
 
+pub use call_no::CallNo;
 pub use items::{Items, NoMemory};
+pub use modules::{
+    Code, Element, FuncType, Import, ImportItem, Limits, Module, ModuleExport, ModuleGlobal,
+    Segment,
+};
 pub use op::{Op, ValueType};
+pub use opcode::{Form, form_of};
 pub use sequence::{one_tree, tree_reads};
