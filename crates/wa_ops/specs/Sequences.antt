@@ -53,6 +53,10 @@ pub record Reads (ops : List Op) (code : Sequence) : Type 0 where
   pub instructions : ops ≡ flat code (End ∷ [])
   pub tree : IsTree code
 
+-- flat code that is some sequence
+abbrev pub IsNested : List Op → Type 0
+IsNested ops = (code : Sequence) × Reads ops code
+
 -- how many instructions a sequence has
 abbrev pub size : Sequence → ℕ
 size done = 0

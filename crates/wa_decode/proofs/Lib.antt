@@ -1,0 +1,9 @@
+pub mod CodeReaders
+pub mod ExpressionReaders
+pub mod Loops
+pub mod ModuleReaders
+pub mod Nesting
+pub mod NumberReaders
+pub mod PartReaders
+pub mod Powers
+pub mod Readers

@@ -1,0 +1,15 @@
+//! The decoder of WebAssembly modules: the module that bytes spell, by the binary format of Core 1.0.
+#![tactic(auto)]
+
+mod codes;
+mod decoding;
+mod fault;
+mod instructions;
+mod numbers;
+mod parts;
+mod sections;
+mod types;
+mod vectors;
+
+pub use decoding::{decode, one_module};
+pub use fault::DecodeFault;
