@@ -12,3 +12,6 @@ pub use integers::{
     binary32, binary64, compare32, compare64, convert, test32, test64, unary32, unary64,
 };
 pub use memory::Memory;
+
+#[cfg(test)]
+mod tests;

@@ -63,12 +63,12 @@ impl Memory {
         ensures fits { IsTrue result ↔ (address + offset + width ≤ length self.old) }
         ensures memory { self.new ≡ written self.old (address + offset) (cells width value) }
     {
+        let whole = value.to_le_bytes();
         let start = address as usize + offset as usize;
         let end = start + width as usize;
         if self.bytes.len() < end {
             return false;
         }
-        let whole = value.to_le_bytes();
         self.bytes[start..end].copy_from_slice(&whole[..width as usize]);
         true
     }
