@@ -1,0 +1,7 @@
+//! The program's top call.
+#![tactic(auto)]
+
+mod input;
+mod line;
+mod reading;
+mod writing;
