@@ -1,5 +1,5 @@
 -- A right input is taken apart in one way.
-use Rattle.std.proofs.Common.{◌≡◌, ◌≢◌, ℕ, ◌≤◌, List, [], ◌∷◌, ◌++◌, length, codes, Option, Some, None, Result, Ok, Err, Bor, MatchOption, IfOk, ap, sym, ◌∙◌, refl}
+use Rattle.std.proofs.Common.{◌≡◌, ◌≢◌, ℕ, ◌≤◌, List, [], ◌∷◌, ◌++◌, length, codes, Option, Some, None, Result, Ok, Err, Bor, MatchOption, IfOk, ap, sym, ◌∙◌}
 use Rattle.std.specs.Option.{option_map}
 use Rattle.std.proofs.lemmas.List.{append_cancel_left, append_cancel_right}
 use Rattle.hk_base.specs.Hexadecimal.{hex_bytes}
@@ -13,7 +13,7 @@ behind_word : (rest digits : List ℕ) → codes "hook " ++ rest ≡ input_with 
 behind_word rest digits e = append_cancel_left (codes "hook ") rest (digits ++ last_line) e
 
 -- an input has its digits alone
-one_digits : (a b : List ℕ) → input_with a ≡ input_with b → a ≡ b
+pub one_digits : (a b : List ℕ) → input_with a ≡ input_with b → a ≡ b
 one_digits a b e = append_cancel_right a b last_line (behind_word (a ++ last_line) b e)
 
 -- from what stands behind the first word, with or without the last line at its end

@@ -2,6 +2,14 @@
 #![tactic(auto)]
 
 mod input;
+mod laws;
 mod line;
+mod program;
 mod reading;
+mod reply;
+mod status;
 mod writing;
+
+pub use laws::one_answer;
+pub use program::top;
+pub use status::Status;

@@ -1,6 +1,6 @@
 use Rattle.std.proofs.lemmas.Bool.Decides.{Decides-eqb}
 use Rattle.std.proofs.lemmas.Slice.Eq.{strip_prefix_is, strip_suffix_is}
-use Rattle.std.proofs.Common.{◌≡◌, codes, ◌++◌, Some}
+use Rattle.std.proofs.Common.{Some}
 use Rattle.hk_replay.specs.declared.input.TheConstants.{FIRST_WORD, LAST_LINE}
 use Rattle.hk_replay.proofs.Inputs.{digits_behind}
 use Rattle.hk_replay.proofs.input.digits_of.Goals as goal

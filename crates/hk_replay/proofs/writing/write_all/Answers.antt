@@ -1,4 +1,4 @@
-use Rattle.std.proofs.Common.{◌++◌, [], take, arith, refl, append-nil, sym, subst, ◌∙◌}
+use Rattle.std.proofs.Common.{◌++◌, [], take, arith, refl, sym, subst, ◌∙◌}
 use Rattle.std.proofs.lemmas.Result.{err_from_is_err_and}
 use Rattle.std.specs.Io.KnownBytes.{Appends}
 use Rattle.hk_replay.proofs.Moves.{writes_none, writes_more, writes_still, front_grows, all_front}
