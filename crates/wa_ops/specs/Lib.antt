@@ -1,2 +1,6 @@
 pub mod Opcodes
 pub mod Sequences
+pub mod Accesses
+pub mod Callees
+pub mod Typing
+pub mod Bound
