@@ -4,3 +4,5 @@ pub mod Accesses
 pub mod Callees
 pub mod Typing
 pub mod Bound
+pub mod Rows
+pub mod Contexts
