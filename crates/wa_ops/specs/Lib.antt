@@ -1,2 +1,4 @@
+pub mod Ends
 pub mod Opcodes
 pub mod Sequences
+pub mod Soundness
