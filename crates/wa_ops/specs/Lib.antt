@@ -1,5 +1,7 @@
+pub mod Ends
 pub mod Opcodes
 pub mod Sequences
+pub mod Soundness
 pub mod Accesses
 pub mod Callees
 pub mod Typing
