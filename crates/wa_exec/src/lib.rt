@@ -6,8 +6,10 @@ mod instance;
 mod laws;
 mod operands;
 mod program;
+#[cfg(test)]
+mod tests;
 mod typing;
 
 pub use instance::{Ended, Instance};
 pub use laws::{one_ending, one_taken};
-pub use program::{CheckFault, Checked, Export, check};
+pub use program::{CheckFault, Checked, Export, HEAD, check};
