@@ -9,6 +9,8 @@ mod memory;
 mod outcome;
 mod outside;
 mod standard;
+#[cfg(test)]
+mod tests;
 
 pub use hashes::{HalfHash, account_index, sha512half, state_index, tx_id};
 pub use hexadecimal::{hex_to_bytes, push_hex};

@@ -1,5 +1,5 @@
 //! Sources and sinks in memory.
-ghost use Rattle.std.specs.Prelude.{◌≡◌, ◌<◌, ◌≤◌, ◌++◌, ◌↔◌, [], length, min, take, drop, is_err, if◌then◌else◌, Contains, Some, Ok, IfErr, IfOk, IsErr, IsErrOf, IsOk, OnErr, OnOk};
+ghost use Rattle.std.specs.Prelude.{◌≡◌, ◌<◌, ◌≤◌, ◌++◌, ◌↔◌, [], length, min, take, drop, is_err, if◌then◌else◌, Contains, Some, Ok, IfErr, IfOk, IsErr, IsErrOf, IsTrue, OnErr, OnOk};
 ghost use Rattle.hk_base.specs.Memory.{next_count};
 ghost use Rattle.hk_base.specs.Outside.{Rose};
 
@@ -73,13 +73,49 @@ impl Source for HonestSource {
     }
 }
 
+// The numbers of the calls that fail, counted from 1, and how many calls and faults there were.
+#[derive(Drop)]
+struct Calls {
+    failing: Vec<u64>,
+    calls: u64,
+    faults: u64,
+}
+
+impl Calls {
+    fn new(failing: Vec<u64>) -> Calls
+        ensures failing { result.failing.items ≡ failing.items }
+        ensures calls { result.calls ≡ 0 }
+        ensures faults { result.faults ≡ 0 }
+    {
+        Calls {
+            failing,
+            calls: 0,
+            faults: 0,
+        }
+    }
+
+    // Counts a call, and a fault where that call fails, and answers whether it does.
+    fn next_fails(&mut self) -> bool
+        ensures fails { IsTrue result ↔ Contains self.old.failing.items (next_count self.old.calls) }
+        ensures calls { self.new.calls ≡ next_count self.old.calls }
+        ensures faults { self.new.faults ≡ (if result then next_count self.old.faults else self.old.faults) }
+        ensures never_falls { self.old.faults ≤ self.new.faults }
+        ensures failing { self.new.failing.items ≡ self.old.failing.items }
+    {
+        self.calls = self.calls.saturating_add(1);
+        let fails = self.failing.contains(&self.calls);
+        if fails {
+            self.faults = self.faults.saturating_add(1);
+        }
+        fails
+    }
+}
+
 /// Bytes in memory that are read in pieces, by calls some of which fail.
 #[derive(Drop)]
 pub struct MemSource {
     honest: HonestSource,
-    failing: Vec<u64>,
-    calls: u64,
-    faults: u64,
+    calls: Calls,
 }
 
 impl Model for MemSource {
@@ -90,14 +126,15 @@ impl Model for MemSource {
     ghost view = { λ source. record {
       left = source.honest.left;
       piece = source.honest.piece;
-      failing = source.failing.items;
-      calls = source.calls;
-      faults = source.faults;
+      failing = source.calls.failing.items;
+      calls = source.calls.calls;
+      faults = source.calls.faults;
     } };
 }
 
 impl MemSource {
-    /// A source of these bytes, which gives at most `piece` of them at a time and fails at the calls with the listed numbers, counted from 1.
+    /// A source of these bytes, which gives at most `piece` of them at a time and fails at the calls with the listed
+    /// numbers, counted from 1.
     pub fn new(bytes: Vec<u8>, piece: usize, failing: Vec<u64>) -> MemSource
         requires some { 1 ≤ piece }
         ensures told { result.left ≡ bytes.items }
@@ -108,9 +145,7 @@ impl MemSource {
     {
         MemSource {
             honest: HonestSource::new(bytes, piece),
-            failing,
-            calls: 0,
-            faults: 0,
+            calls: Calls::new(failing),
         }
     }
 }
@@ -134,9 +169,7 @@ impl Source for MemSource {
         ensures piece { self.new.piece ≡ self.old.piece }
         ensures failing { self.new.failing ≡ self.old.failing }
     {
-        self.calls = self.calls.saturating_add(1);
-        if self.failing.contains(&self.calls) {
-            self.faults = self.faults.saturating_add(1);
+        if self.calls.next_fails() {
             return Err(Failed);
         }
         self.honest.read(into)
@@ -196,9 +229,7 @@ impl Sink for HonestSink {
 #[derive(Drop)]
 pub struct MemSink {
     honest: HonestSink,
-    failing: Vec<u64>,
-    calls: u64,
-    faults: u64,
+    calls: Calls,
 }
 
 impl Model for MemSink {
@@ -208,14 +239,15 @@ impl Model for MemSink {
 
     ghost view = { λ sink. record {
       written = sink.honest;
-      failing = sink.failing.items;
-      calls = sink.calls;
-      faults = sink.faults;
+      failing = sink.calls.failing.items;
+      calls = sink.calls.calls;
+      faults = sink.calls.faults;
     } };
 }
 
 impl MemSink {
-    /// A sink to which nothing was written, and which fails at the calls with the listed numbers, counted from 1. It takes no memory.
+    /// A sink to which nothing was written, and which fails at the calls with the listed numbers, counted from 1. It
+    /// takes no memory.
     pub fn new(alloc: Global, failing: Vec<u64>) -> MemSink
         ensures told { result.written ≡ [] }
         ensures failing { result.failing ≡ failing.items }
@@ -224,9 +256,7 @@ impl MemSink {
     {
         MemSink {
             honest: HonestSink::new(alloc),
-            failing,
-            calls: 0,
-            faults: 0,
+            calls: Calls::new(failing),
         }
     }
 
@@ -255,9 +285,7 @@ impl Sink for MemSink {
         ensures no_fault { (IsErrOf result SinkStop.Failed → ⊥) → self.new.faults ≡ self.old.faults }
         ensures failing { self.new.failing ≡ self.old.failing }
     {
-        self.calls = self.calls.saturating_add(1);
-        if self.failing.contains(&self.calls) {
-            self.faults = self.faults.saturating_add(1);
+        if self.calls.next_fails() {
             return Err(SinkStop::Failed);
         }
         self.honest.write(piece)

@@ -1,0 +1,6 @@
+pub mod Typed
+pub mod Budget
+pub mod Sane
+pub mod Steps
+pub mod Plain
+pub mod Runs
