@@ -1,5 +1,5 @@
 -- What is spelled by bytes is sound.
-use Rattle.std.proofs.Common.{◌≡◌, ℕ, zero, suc, ℤ, ◌+◌, ◌-◌, ◌*◌, ◌^◌, ◌<◌, ◌≤◌, ◌⊎◌, inl, inr, Bool, true, false, ◌==◌, if◌then◌else◌, List, [], ◌∷◌, ◌++◌, length, get_or, Option, Some, None, MatchOption, Result, Ok, Err, IfOk, refl, sym, ap, ◌∙◌, subst, length-append, arith, lit<}
+use Rattle.std.proofs.Common.{◌≡◌, ℕ, suc, ℤ, ◌+◌, ◌-◌, ◌*◌, ◌^◌, ◌<◌, ◌≤◌, inl, inr, Bool, true, false, ◌==◌, if◌then◌else◌, List, [], ◌∷◌, ◌++◌, length, get_or, Some, MatchOption, Result, Ok, Err, IfOk, refl, sym, ap, subst, length-append, arith, lit<}
 use Rattle.wa_ops.specs.Opcodes.{form_at}
 use Rattle.wa_ops.specs.Soundness.{IsCounted, Each, AreSound, IsSoundOp, IsSoundCode, IsSoundType, IsSoundImport, IsSoundExport, IsSoundElement, IsSoundBody, IsSoundSegment, IsSound}
 use Rattle.wa_ops.specs.declared.modules.Code.{Code}
@@ -14,9 +14,9 @@ use Rattle.wa_ops.specs.declared.op.Op.{Op}
 use Rattle.wa_ops.specs.declared.op.Op.TheVariants.{BrTable, Load, Store, Number, Float}
 use Rattle.wa_ops.specs.declared.opcode.Form.{Form}
 use Rattle.wa_ops.specs.declared.opcode.Form.TheVariants as forms
-use Rattle.wa_decode.specs.Grammar.{IsUnsigned, IsSigned, NumberLengths, Then, After, SpellsAll, SpellsVector, SpellsBytes, SpellsSized}
+use Rattle.wa_decode.specs.Grammar.{IsUnsigned, IsSigned, NumberLengths, SpellsAll, SpellsVector, SpellsBytes}
 use Rattle.wa_decode.specs.Instructions.{SpellsFloat, SpellsOp, SpellsExpression}
-use Rattle.wa_decode.specs.Modules.{SpellsFuncType, SpellsLimits, SpellsTable, SpellsImport, SpellsItem, SpellsGlobal, SpellsGlobalType, SpellsExport, SpellsKind, SpellsElement, SpellsLocals, SpellsCode, SpellsSegment, Section, SpellsSection, body_of, Part, HasParts, header, Spells}
+use Rattle.wa_decode.specs.Modules.{SpellsFuncType, SpellsLimits, SpellsTable, SpellsImport, SpellsGlobal, SpellsExport, SpellsElement, SpellsCode, SpellsSegment, Section, SpellsSection, body_of, Part, header, Spells}
 use Rattle.wa_decode.specs.Ranges.{IsBytes}
 use Rattle.wa_decode.specs.declared.fault.DecodeFault.{DecodeFault}
 use Rattle.wa_decode.proofs.ExpressionReaders.{items_long, op_some}
