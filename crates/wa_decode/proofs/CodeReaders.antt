@@ -1,8 +1,7 @@
 -- Instructions and expressions are read as they are spelled.
-use Rattle.std.proofs.Common.{◌≡◌, ◌≢◌, ℕ, zero, suc, ℤ, ◌+◌, ◌-◌, ◌<◌, ◌≤◌, ◌⊎◌, inl, inr, Bool, true, false, ◌==◌, if◌then◌else◌, List, [], ◌∷◌, ◌++◌, length, Option, Some, None, refl, sym, ap, ap₂, ◌∙◌, subst, append_assoc, arith}
+use Rattle.std.proofs.Common.{◌≡◌, ℕ, ◌⊎◌, inl, inr, true, false, ◌==◌, if◌then◌else◌, List, [], ◌∷◌, ◌++◌, length, Option, Some, None, refl, sym, ap, ap₂, ◌∙◌, subst}
 use Rattle.std.proofs.lemmas.Bool.{eqb-true}
 use Rattle.wa_ops.specs.Opcodes.{form_at}
-use Rattle.wa_ops.specs.Sequences.{IsNested}
 use Rattle.wa_ops.specs.declared.op.Op.{Op}
 use Rattle.wa_ops.specs.declared.op.Op.TheVariants.{Unreachable, Nop, Block, Loop, If, Else, End, Br, BrIf, BrTable, Return, Call, CallIndirect, Drop, Select, LocalGet, LocalSet, LocalTee, GlobalGet, GlobalSet, Load, Store, MemorySize, MemoryGrow, I32Const, I64Const, Number, Float}
 use Rattle.wa_ops.specs.declared.op.ValueType.{ValueType}
@@ -10,11 +9,11 @@ use Rattle.wa_ops.specs.declared.op.ValueType.TheVariants.{I32, I64, F32, F64}
 use Rattle.wa_ops.specs.declared.opcode.Form.{Form}
 use Rattle.wa_ops.specs.declared.opcode.Form.TheVariants as forms
 use Rattle.wa_decode.specs.CodeReading.{type_of, value_type_at, result_at, access_at, zero_at, table_at, indirect_at, br_table, call_indirect, other_at, formed_at, op_at}
-use Rattle.wa_decode.specs.Grammar.{IsUnsigned, IsSigned, Then, After, SpellsAll, SpellsVector}
+use Rattle.wa_decode.specs.Grammar.{IsUnsigned, IsSigned, Then, SpellsVector}
 use Rattle.wa_decode.specs.Instructions.{type_byte, SpellsValueType, result_byte, SpellsAccess, constant_size, SpellsFloat, SpellsOp}
-use Rattle.wa_decode.specs.Reading.{◌>>=◌, made_at, both_at, tag_at, unsigned_at, signed_at, cut_at, vector_at}
+use Rattle.wa_decode.specs.Reading.{◌>>=◌, unsigned_at, signed_at, cut_at, vector_at}
 use Rattle.wa_decode.proofs.NumberReaders.{unsigned_reader, signed_reader, cut_forth, cut_back, vector_reader}
-use Rattle.wa_decode.proofs.Readers.{Reader, bind_some, choice_some, some_both, pair_of, both, tagged, Back, never, when, bare, mapped}
+use Rattle.wa_decode.proofs.Readers.{Reader, bind_some, choice_some, some_both, both, Back, never, when, bare, mapped}
 
 -- ---- value types and results
 

@@ -1,12 +1,9 @@
 -- Expressions are read as they are spelled.
-use Rattle.std.proofs.Common.{◌≡◌, ◌≢◌, ℕ, zero, suc, ◌+◌, ◌<◌, ◌≤◌, Bool, true, false, List, [], ◌∷◌, ◌++◌, length, Option, Some, None, refl, sym, ap, ap₂, ◌∙◌, subst, append_assoc, length-append, arith}
-use Rattle.std.proofs.lemmas.List.{append-nil}
-use Rattle.wa_ops.specs.Sequences.{IsNested}
+use Rattle.std.proofs.Common.{◌≡◌, ℕ, zero, suc, ◌≤◌, Bool, false, List, [], ◌∷◌, ◌++◌, length, Option, Some, None, refl, sym, ap, ◌∙◌, subst, append_assoc, length-append, arith}
 use Rattle.wa_ops.specs.declared.op.Op.{Op}
 use Rattle.wa_decode.specs.CodeReading.{op_at, opened, rest_at, regions_at, expression_at}
-use Rattle.wa_decode.specs.Grammar.{Then, SpellsAll}
+use Rattle.wa_decode.specs.Grammar.{SpellsAll}
 use Rattle.wa_decode.specs.Instructions.{SpellsOp, SpellsExpression}
-use Rattle.wa_decode.specs.Reading.{◌>>=◌}
 use Rattle.wa_decode.proofs.CodeReaders.{op_forth, op_back}
 use Rattle.wa_decode.proofs.Nesting.{Closes, nested_closes, closes_nested}
 use Rattle.wa_decode.proofs.Readers.{Reader, bind_some, some_both, pair_of}

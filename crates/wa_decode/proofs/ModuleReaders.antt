@@ -1,13 +1,12 @@
 -- Modules are read as they are spelled.
-use Rattle.std.proofs.Common.{◌≡◌, ◌≢◌, ℕ, zero, suc, ◌+◌, ◌<◌, ◌≤◌, ◌⊎◌, inl, inr, Bool, true, false, nat_lt, nat_le, ◌==◌, ◌&&◌, if◌then◌else◌, List, [], ◌∷◌, ◌++◌, length, Option, Some, None, MatchOption, Result, Ok, Err, IfOk, take, drop, refl, sym, ap, ap₂, ◌∙◌, subst, append_assoc, length-append, arith}
+use Rattle.std.proofs.Common.{◌≡◌, ℕ, zero, suc, ◌≤◌, ◌⊎◌, inl, inr, Bool, true, false, nat_lt, nat_le, ◌==◌, ◌&&◌, if◌then◌else◌, List, [], ◌∷◌, ◌++◌, length, Option, Some, None, MatchOption, Result, Ok, Err, IfOk, take, drop, refl, sym, ap, ap₂, ◌∙◌, subst, arith}
 use Rattle.std.proofs.lemmas.Bool.{eq-eqb, eqb-true, ltb-true, lt-ltb, leb-true, le-leb}
 use Rattle.std.proofs.lemmas.Bool.Decides.{nat_tests}
-use Rattle.std.proofs.lemmas.List.{append-nil}
 use Rattle.wa_ops.specs.declared.modules.Module.{Module}
-use Rattle.wa_decode.specs.Grammar.{IsUnsigned, Then, After, SpellsAll, SpellsVector, SpellsBytes}
-use Rattle.wa_decode.specs.ModuleReading.{func_type_at, limits_at, table_type_at, import_at, global_at, export_at, element_at, code_at, segment_at, start_at, section, section_at, sections_at, highest_at, part_of, part_at, paired, parts_at, behind, module_at}
-use Rattle.wa_decode.specs.Modules.{SpellsFuncType, SpellsLimits, SpellsTable, SpellsImport, SpellsGlobal, SpellsExport, SpellsElement, SpellsCode, SpellsSegment, SpellsStart, Section, SpellsSection, IsCustom, IsOrdered, body_of, Part, HasParts, header, Spells, OneModule}
-use Rattle.wa_decode.specs.Reading.{◌>>=◌, Gives, whole_at, unsigned_at, bytes_at, vector_at}
+use Rattle.wa_decode.specs.Grammar.{IsUnsigned, SpellsAll, SpellsVector}
+use Rattle.wa_decode.specs.ModuleReading.{func_type_at, limits_at, table_type_at, import_at, global_at, export_at, element_at, code_at, segment_at, start_at, section, section_at, sections_at, highest_at, part_of, part_at, parts_at, behind, module_at}
+use Rattle.wa_decode.specs.Modules.{SpellsFuncType, SpellsLimits, SpellsTable, SpellsImport, SpellsGlobal, SpellsExport, SpellsElement, SpellsCode, SpellsSegment, SpellsStart, Section, SpellsSection, IsOrdered, body_of, Part, HasParts, header, Spells, OneModule}
+use Rattle.wa_decode.specs.Reading.{◌>>=◌, Gives, unsigned_at, bytes_at, vector_at}
 use Rattle.wa_decode.specs.declared.fault.DecodeFault.{DecodeFault}
 use Rattle.wa_decode.specs.declared.fault.DecodeFault.TheVariants.{Malformed, NoMemory}
 use lib.Dec.{eqb}
@@ -15,7 +14,7 @@ use lib.Pointwise.{pointwise}
 use Rattle.wa_decode.proofs.ExpressionReaders.{items_long}
 use Rattle.wa_decode.proofs.NumberReaders.{unsigned_reader, bytes_reader, vector_reader, whole_forth, whole_back}
 use Rattle.wa_decode.proofs.PartReaders.{func_type_reader, limits_reader, table_type_reader, import_reader, global_reader, export_reader, element_reader, code_reader, segment_reader, start_reader}
-use Rattle.wa_decode.proofs.Readers.{Reader, bind_some, guard_some, choice_some, some_is, some_both, pair_of}
+use Rattle.wa_decode.proofs.Readers.{Reader, bind_some, guard_some, choice_some, some_is, some_both}
 
 -- ---- sections
 

@@ -1,11 +1,11 @@
 -- Code whose regions all close, read forwards, is nested code, and the other way round.
-use Rattle.std.proofs.Common.{◌≡◌, ℕ, Bool, true, false, List, [], ◌∷◌, Option, Some, None, refl, sym, subst}
+use Rattle.std.proofs.Common.{◌≡◌, Bool, true, false, List, [], ◌∷◌, Option, Some, None, refl, sym, subst}
 use Rattle.wa_ops.specs.declared.op.Op.{Op}
 use Rattle.wa_ops.specs.declared.op.Op.TheVariants.{End, Else}
 use Rattle.wa_ops.specs.declared.op.ValueType.{ValueType}
-use Rattle.wa_ops.specs.Sequences.{Sequence, done, plain, block, loop, if_then, if_else, Nesting, nesting, opens_block, opens_loop, opens_if, turns, closes, stands, IsTree, flat, Reads, IsNested, Open, nothing, to_end, to_else, broken, put_node, put_region, put_if, put_else, put_end, put_by, parse, whole, tree_of}
+use Rattle.wa_ops.specs.Sequences.{Sequence, done, plain, block, loop, if_then, if_else, Nesting, nesting, opens_block, opens_loop, opens_if, turns, closes, stands, IsTree, flat, IsNested, Open, nothing, to_end, to_else, broken, put_node, put_region, put_if, put_else, put_end, put_by, parse, whole}
 use Rattle.wa_ops.proofs.Parsing.{tree_reads}
-use Rattle.wa_decode.specs.CodeReading.{at_else, at_end, opened_by, opened}
+use Rattle.wa_decode.specs.CodeReading.{opened_by, opened}
 
 -- the code closes each region that is open, the last with its last instruction
 abbrev pub Closes : List Op → Option (List Bool) → Type 0

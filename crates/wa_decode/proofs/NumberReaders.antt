@@ -1,8 +1,8 @@
 -- LEB128 numbers and vectors are read as they are spelled.
-use Rattle.std.proofs.Common.{◌≡◌, ◌≢◌, ℕ, zero, suc, ℤ, pos, ◌+◌, ◌-◌, ◌*◌, ◌^◌, ◌<◌, ◌≤◌, ◌+ℤ◌, ◌-ℤ◌, ◌*ℤ◌, ◌⊎◌, inl, inr, Bool, true, false, nat_lt, nat_le, ◌==◌, if◌then◌else◌, List, [], ◌∷◌, ◌++◌, length, take, drop, Option, Some, None, refl, sym, ap, ap₂, ◌∙◌, subst, append_assoc, length-append, arith}
-use Rattle.std.proofs.lemmas.Bool.{eq-eqb, eqb-true, ltb-true, lt-ltb, ltb-false, le-ltb, leb-true, le-leb}
+use Rattle.std.proofs.Common.{◌≡◌, ℕ, zero, suc, ℤ, pos, ◌+◌, ◌-◌, ◌*◌, ◌^◌, ◌≤◌, ◌+ℤ◌, ◌-ℤ◌, ◌*ℤ◌, ◌⊎◌, inl, inr, Bool, true, false, nat_lt, nat_le, if◌then◌else◌, List, [], ◌∷◌, ◌++◌, length, take, drop, Option, Some, None, refl, sym, ap, ap₂, ◌∙◌, subst, append_assoc, length-append, arith}
+use Rattle.std.proofs.lemmas.Bool.{ltb-true, lt-ltb, ltb-false, le-ltb, leb-true, le-leb}
 use Rattle.std.proofs.lemmas.List.{append-nil, take-append-drop, length-take-le}
-use Rattle.wa_decode.specs.Grammar.{IsUnsigned, IsSigned, Then, SpellsAll, SpellsVector, SpellsBytes, SpellsSized}
+use Rattle.wa_decode.specs.Grammar.{IsUnsigned, IsSigned, SpellsAll, SpellsVector, SpellsBytes, SpellsSized}
 use Rattle.wa_decode.specs.Reading.{◌>>=◌, ended, whole_at, wider, wider_signed, unsigned_at, signed_at, cut_at, bytes_at, items_at, vector_at, sized_at}
 use Rattle.wa_decode.proofs.Readers.{Reader, bind_some, guard_some, choice_some, some_both, some_pair, pair_of}
 

@@ -1,28 +1,19 @@
 -- The parts of modules are read as they are spelled.
-use Rattle.std.proofs.Common.{◌≡◌, ◌≢◌, ℕ, zero, suc, ◌<◌, ◌≤◌, ◌⊎◌, inl, inr, Bool, true, false, nat_lt, nat_le, ◌==◌, if◌then◌else◌, List, [], ◌∷◌, ◌++◌, length, Option, Some, None, refl, sym, ap, ap₂, ◌∙◌, subst}
+use Rattle.std.proofs.Common.{◌≡◌, ℕ, Bool, true, false, nat_le, ◌==◌, if◌then◌else◌, List, [], ◌∷◌, ◌++◌, Option, Some, None, refl, ap, ◌∙◌, subst}
 use Rattle.std.proofs.lemmas.Bool.{leb-true, le-leb}
-use Rattle.wa_ops.specs.declared.modules.Code.{Code}
-use Rattle.wa_ops.specs.declared.modules.Element.{Element}
-use Rattle.wa_ops.specs.declared.modules.FuncType.{FuncType}
-use Rattle.wa_ops.specs.declared.modules.Import.{Import}
 use Rattle.wa_ops.specs.declared.modules.ImportItem.{ImportItem}
 use Rattle.wa_ops.specs.declared.modules.ImportItem.TheVariants.{Function, Table, Memory, Global}
 use Rattle.wa_ops.specs.declared.modules.Limits.{Limits}
-use Rattle.wa_ops.specs.declared.modules.ModuleExport.{ModuleExport}
-use Rattle.wa_ops.specs.declared.modules.ModuleGlobal.{ModuleGlobal}
-use Rattle.wa_ops.specs.declared.modules.Segment.{Segment}
-use Rattle.wa_ops.specs.declared.op.Op.{Op}
-use Rattle.wa_ops.specs.declared.op.ValueType.{ValueType}
 use Rattle.wa_decode.specs.CodeReading.{value_type_at, expression_at}
-use Rattle.wa_decode.specs.Grammar.{IsUnsigned, Then, After, SpellsAll, SpellsVector, SpellsBytes, SpellsSized}
+use Rattle.wa_decode.specs.Grammar.{IsUnsigned, Then, SpellsVector, SpellsBytes}
 use Rattle.wa_decode.specs.Instructions.{SpellsValueType, SpellsExpression}
 use Rattle.wa_decode.specs.ModuleReading.{func_type, func_type_at, from_min, between, limits_at, table_type_at, mutable_at, global_type_at, global_item, item_at, import, import_at, global, global_at, kind_at, export, export_at, element, element_at, locals_at, code, body_at, code_at, segment, segment_at, start_at}
 use Rattle.wa_decode.specs.Modules.{SpellsFuncType, SpellsRange, SpellsLimits, SpellsTable, mutable_byte, SpellsGlobalType, SpellsItem, SpellsImport, SpellsGlobal, SpellsKind, SpellsExport, SpellsElement, SpellsLocals, SpellsCode, SpellsSegment, SpellsStart}
-use Rattle.wa_decode.specs.Reading.{◌>>=◌, made_at, both_at, tag_at, unsigned_at, bytes_at, vector_at, sized_at}
+use Rattle.wa_decode.specs.Reading.{made_at, both_at, unsigned_at, bytes_at, vector_at}
 use Rattle.wa_decode.proofs.CodeReaders.{value_type_reader}
 use Rattle.wa_decode.proofs.ExpressionReaders.{expression_reader}
 use Rattle.wa_decode.proofs.NumberReaders.{unsigned_reader, bytes_reader, vector_reader, sized_reader}
-use Rattle.wa_decode.proofs.Readers.{Reader, bind_some, guard_some, some_both, pair_of, made, both, tagged, Back, never, when, bare, mapped}
+use Rattle.wa_decode.proofs.Readers.{Reader, bind_some, guard_some, some_both, made, both, tagged, never, when, bare, mapped}
 
 -- ---- types
 

@@ -1,11 +1,11 @@
 -- The ranges of numbers in LEB128: each byte that goes on adds seven binary digits.
-use Rattle.std.proofs.Common.{◌≡◌, ℕ, ◌+◌, ◌-◌, ◌*◌, ◌^◌, ◌<◌, ◌≤◌, ℤ, pos, ◌+ℤ◌, ◌*ℤ◌, ◌≤ℤ◌, ◌<ℤ◌, w64, to_z, of_z, FitsSigned, List, [], ◌∷◌, length, take, drop, get_or, Option, Some, Bool, true, false, nat_lt, nat_le, arith, ap, refl, ◌∙◌}
+use Rattle.std.proofs.Common.{◌≡◌, ℕ, ◌+◌, ◌-◌, ◌*◌, ◌^◌, ◌<◌, ◌≤◌, ℤ, pos, ◌+ℤ◌, ◌*ℤ◌, ◌≤ℤ◌, ◌<ℤ◌, w64, to_z, of_z, FitsSigned, List, [], ◌∷◌, length, take, drop, get_or, Some, true, false, nat_lt, arith, ap, refl, ◌∙◌}
 use Rattle.std.proofs.Math.Nat.{pow-le-pow_right}
 use Rattle.std.proofs.lemmas.Int.{ints, to_z-of_z}
 use Rattle.std.proofs.Math.Seq.{take-length}
 use Rattle.std.proofs.lemmas.Bool.Decides.{nat_tests}
 use Rattle.std.proofs.lemmas.Nat.{pow-add}
-use Rattle.wa_decode.specs.Reading.{◌>>=◌, signed_at}
+use Rattle.wa_decode.specs.Reading.{signed_at}
 
 pub seven_more : (bits : ℕ) → 7 < bits → 2 ^ bits ≡ 128 * 2 ^ (bits - 7)
 seven_more bits h =

@@ -1,9 +1,8 @@
 -- What is read is what is spelled, both ways, for readers made of readers.
-use Rattle.std.proofs.Common.{◌≡◌, ◌≢◌, ℕ, zero, suc, ℤ, pos, ◌+◌, ◌-◌, ◌*◌, ◌^◌, ◌<◌, ◌≤◌, ◌+ℤ◌, ◌-ℤ◌, ◌*ℤ◌, ◌⊎◌, inl, inr, Bool, true, false, nat_lt, nat_le, ◌==◌, if◌then◌else◌, List, [], ◌∷◌, ◌++◌, length, take, drop, Option, Some, None, unwrap_or, refl, sym, ap, ap₂, ◌∙◌, subst, append_assoc, arith}
-use Rattle.std.proofs.lemmas.Bool.{eq-eqb, eqb-true, ltb-true, lt-ltb}
-use Rattle.std.proofs.lemmas.Bool.Decides.{nat_tests}
-use Rattle.wa_decode.specs.Grammar.{IsUnsigned, IsSigned, Then, After, SpellsAll, SpellsVector, SpellsBytes, SpellsSized}
-use Rattle.wa_decode.specs.Reading.{◌>>=◌, made_at, both_at, tag_at, ended, whole_at, wider, wider_signed, unsigned_at, signed_at, cut_at, bytes_at, items_at, vector_at, sized_at}
+use Rattle.std.proofs.Common.{◌≡◌, ℕ, ◌⊎◌, inl, inr, Bool, true, false, ◌==◌, if◌then◌else◌, List, [], ◌∷◌, ◌++◌, Option, Some, None, refl, sym, ap, ap₂, ◌∙◌, subst, append_assoc}
+use Rattle.std.proofs.lemmas.Bool.{eq-eqb, eqb-true}
+use Rattle.wa_decode.specs.Grammar.{Then, After}
+use Rattle.wa_decode.specs.Reading.{◌>>=◌, made_at, both_at, tag_at}
 
 -- each spelling is read, with whatever stands behind it; and what is read is spelled
 pub record Reader {A : Type 0} (Spelling : A → List ℕ → Type 0) (read : List ℕ → Option (A × List ℕ)) : Type 0 where

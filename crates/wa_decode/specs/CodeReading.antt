@@ -1,5 +1,5 @@
 -- Reading instructions and expressions from left to right.
-use Rattle.std.specs.Prelude.{ℕ, zero, suc, ℤ, ◌≡◌, Bool, true, false, ◌==◌, if◌then◌else◌, List, [], ◌∷◌, length, Option, Some, None}
+use Rattle.std.specs.Prelude.{ℕ, zero, suc, Bool, true, false, ◌==◌, if◌then◌else◌, List, [], ◌∷◌, length, Option, Some, None}
 use Rattle.wa_ops.specs.Opcodes.{form_at}
 use Rattle.wa_ops.specs.Sequences.{Nesting, nesting, opens_block, opens_loop, opens_if, turns, closes, stands}
 use Rattle.wa_ops.specs.declared.op.Op.{Op}

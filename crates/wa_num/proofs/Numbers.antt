@@ -1,5 +1,5 @@
 -- Numbers in memory, lowest byte first.
-use Rattle.std.proofs.Common.{◌≡◌, ℕ, ◌+◌, ◌-◌, ◌*◌, ◌≤◌, List, [], ◌∷◌, ◌++◌, length, replicate, arith, refl}
+use Rattle.std.proofs.Common.{◌≡◌, ℕ, ◌-◌, ◌≤◌, List, [], ◌∷◌, ◌++◌, length, replicate, arith, refl}
 use Rattle.std.specs.Int.{w64, from_le_bytes}
 use Rattle.wa_num.specs.Memory.{little}
 

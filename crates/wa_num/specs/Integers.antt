@@ -1,8 +1,7 @@
 -- The integer operations of WebAssembly Core 1.0, "Integer Operations", on numbers from 0 to 2 ^ N - 1.
-use Rattle.std.specs.Prelude.{ℕ, ℤ, pos, ◌+◌, ◌-◌, ◌*◌, ◌/◌, ◌%◌, ◌^◌, ◌-ℤ◌, Bool, ◌==◌, ◌&&◌, not, nat_lt, nat_le, if◌then◌else◌, Result, Ok, Err, bit_and, bit_or, bit_xor}
+use Rattle.std.specs.Prelude.{ℕ, suc, ℤ, pos, negsuc, neg_ℤ, unsigned_abs, ◌+◌, ◌-◌, ◌*◌, ◌/◌, ◌%◌, ◌^◌, Bool, ◌==◌, ◌&&◌, not, nat_lt, nat_le, if◌then◌else◌, Result, Ok, Err, bit_and, bit_or, bit_xor}
 use Rattle.std.specs.Int.{Width, w32, w64, cast_signed, cast_unsigned, leading_zeros, trailing_zeros, from_bool}
-use Rattle.std.specs.Int.RustNames.{int_div, int_rem, int_lt, int_le, count_ones}
-use lib.Signed.{shr_z}
+use Rattle.std.specs.Int.RustNames.{int_lt, int_le, count_ones}
 use mir.Val.{bits, hbits}
 use Rattle.hk_base.specs.declared.outcome.Trap.{Trap}
 use Rattle.hk_base.specs.declared.outcome.Trap.TheVariants.{DivideByZero, DivideOverflow}
@@ -23,16 +22,33 @@ signed w i = cast_signed w i
 abbrev pub unsigned : Width → ℤ → ℕ
 unsigned w z = cast_unsigned w z
 
--- the quotient toward zero of the signed readings; that of the least number by -1 would be 2 ^ (N - 1)
+-- the quotient of two integers, rounded toward zero
+abbrev pub quotient : ℤ → ℤ → ℤ
+quotient (pos a) (pos b) = pos (a / b)
+quotient (pos a) (negsuc b) = neg_ℤ (pos (a / suc b))
+quotient (negsuc a) (pos b) = neg_ℤ (pos (suc a / b))
+quotient (negsuc a) (negsuc b) = pos (suc a / suc b)
+
+-- what that quotient leaves of the first, with its sign
+abbrev pub remainder : ℤ → ℤ → ℤ
+remainder (pos a) d = pos (a % unsigned_abs d)
+remainder (negsuc a) d = neg_ℤ (pos (suc a % unsigned_abs d))
+
+-- an integer divided by a number and rounded down: -(a + 1) by n is -(a / n + 1)
+abbrev pub floored : ℤ → ℕ → ℤ
+floored (pos a) n = pos (a / n)
+floored (negsuc a) n = negsuc (a / n)
+
+-- of the signed readings; the quotient of the least number by -1 would be 2 ^ (N - 1), which has no signed reading
 abbrev pub divide_signed : Width → ℕ → ℕ → Result ℕ Trap
 divide_signed w a b =
     if b == 0 then Err DivideByZero else
     if (a == 2 ^ hbits w) && (b == 2 ^ bits w - 1) then Err DivideOverflow else
-    Ok (unsigned w (int_div (signed w a) (signed w b)))
+    Ok (unsigned w (quotient (signed w a) (signed w b)))
 
--- what the quotient toward zero leaves of the signed readings, with the sign of the first; 0 for the least number by -1
+-- of the signed readings; 0 for the least number by -1
 abbrev pub remainder_signed : Width → ℕ → ℕ → Result ℕ Trap
-remainder_signed w a b = if b == 0 then Err DivideByZero else Ok (unsigned w (int_rem (signed w a) (signed w b)))
+remainder_signed w a b = if b == 0 then Err DivideByZero else Ok (unsigned w (remainder (signed w a) (signed w b)))
 
 -- the binary digits of a, turned k places toward the high end, where k is below N: those past the end come back in at the low one
 abbrev pub turned_left : Width → ℕ → ℕ → ℕ
@@ -54,8 +70,7 @@ binary w And a b = Ok (bit_and a b)
 binary w Or a b = Ok (bit_or a b)
 binary w Xor a b = Ok (bit_xor a b)
 binary w Shl a b = Ok ((a * 2 ^ (b % bits w)) % 2 ^ bits w)
--- the signed reading divided by a power of two and rounded down
-binary w ShrS a b = Ok (unsigned w (shr_z (signed w a) (2 ^ (b % bits w))))
+binary w ShrS a b = Ok (unsigned w (floored (signed w a) (2 ^ (b % bits w))))
 binary w ShrU a b = Ok (a / 2 ^ (b % bits w))
 binary w Rotl a b = Ok (turned_left w a (b % bits w))
 binary w Rotr a b = Ok (turned_right w a (b % bits w))

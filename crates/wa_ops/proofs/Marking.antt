@@ -1,9 +1,9 @@
 -- The table of ends, made from the last instruction to the first.
-use Rattle.std.proofs.Common.{◌≡◌, ℕ, zero, suc, ◌+◌, ◌<◌, ◌≤◌, List, [], ◌∷◌, length, drop, get_or, Option, Some, None, refl, sym, ap, ap₂, ◌∙◌, subst, add-one, drop-cons, arith}
+use Rattle.std.proofs.Common.{◌≡◌, ℕ, zero, suc, ◌+◌, ◌<◌, ◌≤◌, List, [], ◌∷◌, length, drop, get_or, Some, refl, sym, ap, ap₂, ◌∙◌, subst, add-one, drop-cons, arith}
 use Rattle.std.proofs.Math.ListN.{drop_of_length-le}
 use Rattle.wa_ops.specs.declared.op.Op.{Op}
 use Rattle.wa_ops.specs.Ends.{BehindBySize, behind, ends_of, first_place, others, entry, open_before}
-use Rattle.wa_ops.specs.Sequences.{Sequence, done, plain, block, loop, if_then, if_else, Nesting, nesting, opens_block, opens_loop, opens_if, turns, closes, stands, Reads, IsNested, Open, nothing, to_end, to_else, broken, put_node, put_region, put_if, put_else, put_end, put_by, parse, whole, tree_of, size}
+use Rattle.wa_ops.specs.Sequences.{Sequence, done, plain, block, loop, if_then, if_else, Nesting, nesting, opens_block, opens_loop, opens_if, turns, closes, stands, Reads, IsNested, Open, nothing, to_end, to_else, broken, put_by, parse, whole}
 use Rattle.wa_ops.proofs.Parsing.{found_tree}
 
 -- the places of the ends that are open in code that begins at this place, the innermost first

@@ -1,5 +1,5 @@
 -- What each decoded module meets beyond its types, and what calls need that take flat code or a module.
-use Rattle.std.specs.Prelude.{ℕ, ◌≡◌, ◌^◌, ◌<◌, ◌≤◌, ◌⊎◌, List, [], ◌∷◌, length}
+use Rattle.std.specs.Prelude.{◌≡◌, ◌^◌, ◌<◌, ◌≤◌, ◌⊎◌, List, [], ◌∷◌, length}
 use Rattle.wa_ops.specs.Opcodes.{form_at}
 use Rattle.wa_ops.specs.Sequences.{IsNested}
 use Rattle.wa_ops.specs.declared.modules.Code.{Code}
@@ -8,7 +8,6 @@ use Rattle.wa_ops.specs.declared.modules.FuncType.{FuncType}
 use Rattle.wa_ops.specs.declared.modules.Import.{Import}
 use Rattle.wa_ops.specs.declared.modules.Module.{Module}
 use Rattle.wa_ops.specs.declared.modules.ModuleExport.{ModuleExport}
-use Rattle.wa_ops.specs.declared.modules.ModuleGlobal.{ModuleGlobal}
 use Rattle.wa_ops.specs.declared.modules.Segment.{Segment}
 use Rattle.wa_ops.specs.declared.op.Op.{Op}
 use Rattle.wa_ops.specs.declared.op.Op.TheVariants.{BrTable, Load, Store, Number, Float}

@@ -19,3 +19,6 @@ pub use modules::{
 pub use op::{Op, ValueType};
 pub use opcode::{Form, form_of};
 pub use sequence::{one_tree, tree_reads};
+
+#[cfg(test)]
+mod tests;

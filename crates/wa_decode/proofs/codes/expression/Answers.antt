@@ -1,4 +1,4 @@
-use Rattle.std.proofs.Common.{◌≡◌, ◌∙◌, ◌++◌, ◌∷◌, [], ap, true, refl, Some}
+use Rattle.std.proofs.Common.{◌≡◌, ◌∙◌, [], ap, refl, Some}
 use Rattle.std.proofs.lemmas.Result.{err_from_is_err_and}
 use Rattle.wa_decode.specs.CodeReading.{opened}
 use Rattle.wa_decode.proofs.Loops.{no_op, misplaced, goes_on, ends, op_shorter}

@@ -1,4 +1,4 @@
-use Rattle.std.proofs.Common.{◌≡◌, ◌∙◌, ap, sym, Some}
+use Rattle.std.proofs.Common.{◌∙◌, ap, sym, Some}
 use Rattle.wa_decode.specs.Modules.{header}
 use Rattle.wa_decode.proofs.ModuleReaders.{behind_stripped, behind_missing}
 use Rattle.wa_decode.proofs.decoding.headed.Goals as goal

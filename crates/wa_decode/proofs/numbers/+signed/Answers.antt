@@ -1,4 +1,4 @@
-use Rattle.std.proofs.Common.{ℕ, ◌≡◌, ◌-◌, ◌*◌, ◌^◌, ◌<◌, ◌≤◌, ℤ, pos, ◌+ℤ◌, ◌*ℤ◌, w64, to_z, of_z, get_or, arith}
+use Rattle.std.proofs.Common.{ℕ, ◌-◌, ◌*◌, ◌^◌, ◌<◌, ◌≤◌, get_or, arith}
 use Rattle.wa_decode.proofs.Powers.{at_most, half_seven_more, product_fits, tidy, signed_more, in_range_more}
 use Rattle.wa_decode.proofs.numbers.+signed.Goals as goal
 

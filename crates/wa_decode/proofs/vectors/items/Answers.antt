@@ -1,4 +1,3 @@
-use Rattle.std.proofs.Common.{◌≡◌, ◌++◌, ◌∷◌, []}
 use Rattle.std.proofs.lemmas.Result.{err_from_is_err_and}
 use Rattle.wa_decode.specs.Reading.{items_at}
 use Rattle.wa_decode.proofs.Loops.{item_read, no_item, all_items}

@@ -1,4 +1,4 @@
-use Rattle.std.proofs.Common.{◌≡◌, ap, ◌∙◌, length, ◌-◌, ◌++◌, List, ℕ, replicate}
+use Rattle.std.proofs.Common.{◌≡◌, ap, ◌∙◌}
 use Rattle.std.specs.Int.{w64, from_le_bytes}
 use Rattle.wa_num.proofs.Numbers.{little_widened}
 use Rattle.wa_num.proofs.memory.number_of.Goals as goal

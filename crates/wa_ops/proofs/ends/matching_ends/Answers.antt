@@ -1,4 +1,4 @@
-use Rattle.std.proofs.Common.{◌≡◌, ◌+◌, ◌-◌, ℕ, ap, ◌∙◌, subst, arith}
+use Rattle.std.proofs.Common.{◌≡◌, ◌+◌, ◌-◌, ℕ, ◌∙◌, subst, arith}
 use Rattle.wa_ops.proofs.Marking.{Marking, all_marked, nested_unbroken, one_more}
 use Rattle.wa_ops.proofs.ends.matching_ends.Goals as goal
 

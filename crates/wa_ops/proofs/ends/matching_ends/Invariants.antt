@@ -1,4 +1,3 @@
-use Rattle.std.proofs.Common.{◌-◌}
 use Rattle.wa_ops.proofs.Marking.{Marking}
 use Rattle.wa_ops.proofs.ends.matching_ends.Given as goal
 

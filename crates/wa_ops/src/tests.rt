@@ -1,0 +1,66 @@
+use super::*;
+use std::test::Fail;
+
+#[test]
+fn the_end_of_every_region(rt: HostRuntime) -> Result<(), Fail> {
+    let ops = [
+        Op::Block(None),
+        Op::Loop(None),
+        Op::End,
+        Op::End,
+        Op::If(None),
+        Op::Nop,
+        Op::Else,
+        Op::End,
+        Op::If(None),
+        Op::End,
+        Op::End,
+    ];
+    let ends = matching_ends(rt.alloc(), &ops)?;
+    assert_eq!(rt;
+        ends.as_slice(),
+        [3, 2, 0, 0, 6, 0, 7, 0, 9, 0, 0].as_slice()
+    );
+    Ok(())
+}
+
+#[test]
+fn forms_at_their_edges(rt: HostRuntime) {
+    let rows = [
+        (0x27, Form::Other),
+        (0x28, Form::Load),
+        (0x2A, Form::FloatAccess),
+        (0x35, Form::Load),
+        (0x36, Form::Store),
+        (0x38, Form::FloatAccess),
+        (0x3E, Form::Store),
+        (0x3F, Form::Other),
+        (0x44, Form::FloatConstant),
+        (0x45, Form::Number),
+        (0x5A, Form::Number),
+        (0x5B, Form::FloatNumber),
+        (0x67, Form::Number),
+        (0x8A, Form::Number),
+        (0x8B, Form::FloatNumber),
+        (0xA7, Form::Number),
+        (0xA8, Form::FloatNumber),
+        (0xAD, Form::Number),
+        (0xBF, Form::FloatNumber),
+        (0xC0, Form::Other),
+    ];
+    for (opcode, form) in rows {
+        assert_eq!(rt; form_of(opcode), form, "{opcode}");
+    }
+}
+
+#[test]
+fn items_are_a_list(rt: HostRuntime) -> Result<(), Fail> {
+    let mut items = Items::from_vec(vec![in rt.alloc(); 7u32, 8]?);
+    items.push(9)?;
+    assert_eq!(rt; items.as_slice(), [7, 8, 9].as_slice());
+    assert_eq!(rt; items.len(), 3);
+    assert_eq!(rt; items.into_vec().as_slice(), [7, 8, 9].as_slice());
+    assert_eq!(rt; Items::<u32>::new(rt.alloc()).len(), 0);
+    assert_eq!(rt; CallNo(3).0, 3);
+    Ok(())
+}
