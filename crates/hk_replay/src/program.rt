@@ -20,7 +20,12 @@ const MOST_TAKEN: usize = 379;
 ///
 /// `run` reads an input of one `hook` line and the line `end`, checks the hook's code, runs it once with argument 0, and
 /// prints the line of its ending. All other words print the usage line.
-pub fn top<S: Source, K: Sink>(alloc: Global, words: &[String], source: &mut S, sink: &mut K) -> Status
+pub fn top<S: Source, K: Sink>(
+    alloc: Global,
+    words: &[String],
+    source: &mut S,
+    sink: &mut K,
+) -> Status
     // What was written and answered is what the definitions give for the words and all bytes of the source.
     ensures answered { IsAnswer result → (bytes : List ℕ) → S.left source.old ≡ Some bytes →
         (text : List ℕ) × Gives (map string_bytes words.now) bytes text result × Appends (K.written sink.old) (K.written sink.new) text }
@@ -52,7 +57,12 @@ pub fn top<S: Source, K: Sink>(alloc: Global, words: &[String], source: &mut S, 
 }
 
 // The program, with each clause of `top` but that on answers without a fault.
-fn perform<S: Source, K: Sink>(alloc: Global, words: &[String], source: &mut S, sink: &mut K) -> Status
+fn perform<S: Source, K: Sink>(
+    alloc: Global,
+    words: &[String],
+    source: &mut S,
+    sink: &mut K,
+) -> Status
     ensures answered { IsAnswer result → (bytes : List ℕ) → S.left source.old ≡ Some bytes →
         (text : List ℕ) × Gives (map string_bytes words.now) bytes text result × Appends (K.written sink.old) (K.written sink.new) text }
     ensures usage { (IsRun (map string_bytes words.now) → ⊥) → TellsUsage result (K.written sink.old) (K.written sink.new) }
@@ -71,7 +81,11 @@ fn perform<S: Source, K: Sink>(alloc: Global, words: &[String], source: &mut S, 
     if is_run(words) {
         run(alloc, source, sink)
     } else {
-        finish(sink, b"usage: hooks check | run | replay | demo N\n", Status::Usage)
+        finish(
+            sink,
+            b"usage: hooks check | run | replay | demo N\n",
+            Status::Usage,
+        )
     }
 }
 

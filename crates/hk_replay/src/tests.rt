@@ -7,7 +7,8 @@ use std::alloc::Global;
 use std::test::Fail;
 
 // The bytes before the code section: the import of `accept`, and the export `hook`.
-const HEAD: &str = "0061736d01000000010d0260017f017e60037f7f7e017e020e0103656e76066163636570740001030201000708\
+const HEAD: &str =
+    "0061736d01000000010d0260017f017e60037f7f7e017e020e0103656e76066163636570740001030201000708\
 0104686f6f6b0001";
 
 // A hook that accepts with an empty text.
@@ -28,7 +29,11 @@ fn words_of(alloc: Global, words: &[&str]) -> Result<Vec<String>, NoMemory> {
 }
 
 // What `run` prints and answers for an input that comes in pieces.
-fn run_in_pieces(alloc: Global, input: &[u8], piece: usize) -> Result<(Status, HonestSink), NoMemory>
+fn run_in_pieces(
+    alloc: Global,
+    input: &[u8],
+    piece: usize,
+) -> Result<(Status, HonestSink), NoMemory>
     requires some { 1 ≤ piece }
 {
     let words = words_of(alloc, &["run"])?;
@@ -69,7 +74,10 @@ fn digits_of_either_case_are_right(rt: HostRuntime) -> Result<(), Fail> {
     input.extend_from_slice(b"\nend\n")?;
     let (answer, sink) = run_in_pieces(alloc, input.as_slice(), 64)?;
     assert_eq!(rt; answer, Status::Done);
-    assert_eq!(rt; sink.written(), b"accepted 0 - count 4 bound 5\n".as_slice());
+    assert_eq!(rt;
+        sink.written(),
+        b"accepted 0 - count 4 bound 5\n".as_slice()
+    );
     Ok(())
 }
 
@@ -77,8 +85,19 @@ fn digits_of_either_case_are_right(rt: HostRuntime) -> Result<(), Fail> {
 fn other_inputs_are_bad(rt: HostRuntime) -> Result<(), Fail> {
     let alloc = rt.alloc();
     let inputs = [
-        "", "hook", "hook \nend\n", "hook 0\nend\n", "hook 0g\nend\n", "hook  00\nend\n", "hook 00 \nend\n",
-        "hook 00\r\nend\r\n", "hook 00\n", "hook 00\nend", "hook 00\nend\n\n", "HOOK 00\nend\n", "\nhook 00\nend\n",
+        "",
+        "hook",
+        "hook \nend\n",
+        "hook 0\nend\n",
+        "hook 0g\nend\n",
+        "hook  00\nend\n",
+        "hook 00 \nend\n",
+        "hook 00\r\nend\r\n",
+        "hook 00\n",
+        "hook 00\nend",
+        "hook 00\nend\n\n",
+        "HOOK 00\nend\n",
+        "\nhook 00\nend\n",
         "hook 00\nhook 00\nend\n",
     ];
     for input in inputs {
@@ -115,14 +134,30 @@ fn an_input_has_at_most_378_bytes(rt: HostRuntime) -> Result<(), Fail> {
 fn other_words_print_the_usage_line(rt: HostRuntime) -> Result<(), Fail> {
     let alloc = rt.alloc();
     let lists: [&[&str]; 7] = [
-        &[], &["run", "run"], &["--help"], &["check"], &["replay"], &["demo", "10"], &["Run"],
+        &[],
+        &["run", "run"],
+        &["--help"],
+        &["check"],
+        &["replay"],
+        &["demo", "10"],
+        &["Run"],
     ];
     for list in lists {
         let words = words_of(alloc, list)?;
-        let mut source = MemSource::new(Vec::from_slice(alloc, b"hook 00\nend\n")?, 4, Vec::from_slice(alloc, &[1])?);
+        let mut source = MemSource::new(
+            Vec::from_slice(alloc, b"hook 00\nend\n")?,
+            4,
+            Vec::from_slice(alloc, &[1])?,
+        );
         let mut sink = HonestSink::new(alloc);
-        assert_eq!(rt; top(alloc, words.as_slice(), &mut source, &mut sink), Status::Usage);
-        assert_eq!(rt; sink.written(), b"usage: hooks check | run | replay | demo N\n".as_slice());
+        assert_eq!(rt;
+            top(alloc, words.as_slice(), &mut source, &mut sink),
+            Status::Usage
+        );
+        assert_eq!(rt;
+            sink.written(),
+            b"usage: hooks check | run | replay | demo N\n".as_slice()
+        );
     }
     Ok(())
 }
@@ -143,7 +178,10 @@ fn faults_of_the_outside_are_told(rt: HostRuntime) -> Result<(), Fail> {
         let bytes = Vec::from_slice(alloc, input.as_bytes())?;
         let mut source = MemSource::new(bytes, 64, Vec::from_slice(alloc, &[read])?);
         let mut sink = MemSink::new(alloc, Vec::from_slice(alloc, &[write])?);
-        assert_eq!(rt; top(alloc, words.as_slice(), &mut source, &mut sink), status);
+        assert_eq!(rt;
+            top(alloc, words.as_slice(), &mut source, &mut sink),
+            status
+        );
         assert_eq!(rt; sink.written().is_empty(), status != Status::Done);
     }
     Ok(())
@@ -155,16 +193,27 @@ fn short_writes_are_gone_on_with(rt: HostRuntime) -> Result<(), Fail> {
     let input = format!(in alloc; "hook {HEAD}{ACCEPTS}\nend\n")?;
     let words = words_of(alloc, &["run"])?;
     let mut source = HonestSource::new(Vec::from_slice(alloc, input.as_bytes())?, 64);
-    let mut sink = SlowSink { honest: HonestSink::new(alloc) };
-    assert_eq!(rt; top(alloc, words.as_slice(), &mut source, &mut sink), Status::Done);
-    assert_eq!(rt; sink.honest.written(), b"accepted 0 - count 4 bound 5\n".as_slice());
+    let mut sink = SlowSink {
+        honest: HonestSink::new(alloc),
+    };
+    assert_eq!(rt;
+        top(alloc, words.as_slice(), &mut source, &mut sink),
+        Status::Done
+    );
+    assert_eq!(rt;
+        sink.honest.written(),
+        b"accepted 0 - count 4 bound 5\n".as_slice()
+    );
 
     // A buffer that is full takes the front.
     let mut source = HonestSource::new(Vec::from_slice(alloc, input.as_bytes())?, 64);
     let mut buffer = [0; 10];
     {
         let mut sink = StdSink::new(buffer.as_mut_slice());
-        assert_eq!(rt; top(alloc, words.as_slice(), &mut source, &mut sink), Status::WriteFault);
+        assert_eq!(rt;
+            top(alloc, words.as_slice(), &mut source, &mut sink),
+            Status::WriteFault
+        );
     }
     assert_eq!(rt; &buffer, b"accepted 0");
     Ok(())

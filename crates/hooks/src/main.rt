@@ -3,11 +3,10 @@
 
 use hk_base::{StdSink, StdSource};
 use hk_replay::{Status, top};
-use std::env;
 use std::env::Env;
-use std::io;
 use std::io::ErrorKind;
 use std::process::ExitCode;
+use std::{env, io};
 
 /// The exit status where the words can't be had for another reason than want of memory.
 const NO_WORDS: u8 = 9;

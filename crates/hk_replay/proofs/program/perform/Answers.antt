@@ -19,5 +19,5 @@ returns-else-is_run-clause-stopped g c = λ no bytes told. record {
     Usage,
     (not_so c.is_run.result c.is_run.ensures.run c.if-is_run.false, refl),
   );
-  wrote = c.finish.ensures.front no
+  wrote = c.finish.ensures.front no;
 }
