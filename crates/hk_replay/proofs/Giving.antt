@@ -14,7 +14,7 @@ use Rattle.hk_replay.specs.Input.{IsInput}
 use Rattle.hk_replay.specs.Line.{run_line}
 use Rattle.hk_replay.specs.Answers.{IsLineOf, IsRunOf, Gives, IsAnswer, OneAnswer}
 use Rattle.std.specs.Io.KnownBytes.{Consumes, IsAtEnd}
-use Rattle.hk_replay.specs.Moved.{Took, WroteFront, StopsAfter}
+use Rattle.hk_replay.specs.Moved.{Took, Answered, WroteFront, IsNoneOrGiven, StopsAfter}
 use Rattle.hk_replay.proofs.Moves.{writes_none}
 use Rattle.hk_replay.proofs.Inputs.{one_digits}
 
@@ -72,14 +72,14 @@ one_answer words bytes first second NoMemory other x y = absurd x
 one_answer words bytes first second TooLong other x y = absurd x
 
 -- what is given is the answer, but for want of memory
-pub exact_answer : {W : List ℕ → Type 0} (words : List (List ℕ)) (bytes text : List ℕ) (result status : Status) →
-    (IsAnswer result → (given : List ℕ) × Gives words bytes given result × W given) →
-    (result ≡ ReadFault → ⊥) → (result ≡ WriteFault → ⊥) → Gives words bytes text status → (result ≡ status) ⊎ (result ≡ NoMemory)
-exact_answer words bytes text ReadFault status answered no_read no_write given = absurd (no_read refl)
-exact_answer words bytes text WriteFault status answered no_read no_write given = absurd (no_write refl)
-exact_answer words bytes text NoMemory status answered no_read no_write given = inr refl
-exact_answer words bytes text result status answered no_read no_write given =
-    let mine = answered tt in inl (one_answer words bytes mine.0 text result status mine.1 given).answer
+pub exact_answer : (words : List (List ℕ)) (bytes text : List ℕ) (result status : Status) (before now : Option (List ℕ)) →
+    (IsAnswer result → Answered words bytes result before now) → (result ≡ ReadFault → ⊥) → (result ≡ WriteFault → ⊥) →
+    Gives words bytes text status → (result ≡ status) ⊎ (result ≡ NoMemory)
+exact_answer words bytes text ReadFault status before now answered no_read no_write given = absurd (no_read refl)
+exact_answer words bytes text WriteFault status before now answered no_read no_write given = absurd (no_write refl)
+exact_answer words bytes text NoMemory status before now answered no_read no_write given = inr refl
+exact_answer words bytes text result status before now answered no_read no_write given =
+    let mine = answered tt in inl (one_answer words bytes mine.text text result status mine.given given).answer
 
 -- an input of more bytes than are taken is no right one
 too_long : (taken rest code : List ℕ) → length taken ≡ 379 → IsInput (taken ++ rest) code → ⊥
@@ -116,7 +116,7 @@ given_all words bytes taken text new status t last given =
 
 -- a stop after all bytes that are taken were
 pub stops_last : (words : List (List ℕ)) (bytes taken text : List ℕ) (left before now : Option (List ℕ)) → Took bytes taken left →
-    (length taken ≡ 379) ⊎ IsAtEnd left → (text ≡ []) ⊎ ((status : Status) × Gives words taken text status) → WroteFront text before now →
+    (length taken ≡ 379) ⊎ IsAtEnd left → IsNoneOrGiven words taken text → WroteFront text before now →
     StopsAfter words bytes left before now
 stops_last words bytes taken text left before now t last (inl none) wrote =
     record { taken = taken; took = t; text = text; due = inl none; wrote = wrote }
@@ -129,17 +129,21 @@ stops_early words bytes taken left known t =
     record { taken = taken; took = t; text = []; due = inl refl; wrote = record { front = []; more = []; whole = refl; wrote = writes_none known } }
 
 -- what is given for the bytes that were read, given for all that the source had
-pub answered_all : {W : List ℕ → Type 0} (words : List (List ℕ)) (bytes read taken : List ℕ) (old new : Option (List ℕ)) (status : Status) →
+pub answered_all : (words : List (List ℕ)) (bytes read taken : List ℕ) (old new before now : Option (List ℕ)) (status : Status) →
     old ≡ Some bytes → Consumes old new taken → read ≡ taken → (length taken ≡ 379) ⊎ IsAtEnd new →
-    (text : List ℕ) × Gives words read text status × W text → (text : List ℕ) × Gives words bytes text status × W text
-answered_all words bytes read taken old new status told consumes is last (text, given, wrote) =
-    (text, given_all words bytes taken text new status (took old new bytes taken told consumes) last (subst (λ l. Gives words l text status) is given), wrote)
+    Answered words read status before now → Answered words bytes status before now
+answered_all words bytes read taken old new before now status told consumes is last a = record {
+  text = a.text;
+  given = given_all words bytes taken a.text new status (took old new bytes taken told consumes) last
+      (subst (λ l. Gives words l a.text status) is a.given);
+  wrote = a.wrote;
+}
 
 -- a stop after the bytes were read
 pub stops_all : (words : List (List ℕ)) (bytes read taken : List ℕ) (old new before now : Option (List ℕ)) →
     old ≡ Some bytes → Consumes old new taken → read ≡ taken → (length taken ≡ 379) ⊎ IsAtEnd new →
-    (text : List ℕ) × ((text ≡ []) ⊎ ((status : Status) × Gives words read text status)) × WroteFront text before now →
+    (text : List ℕ) × IsNoneOrGiven words read text × WroteFront text before now →
     StopsAfter words bytes new before now
 stops_all words bytes read taken old new before now told consumes is last (text, due, wrote) =
     stops_last words bytes taken text new before now (took old new bytes taken told consumes) last
-    (subst (λ l. (text ≡ []) ⊎ ((status : Status) × Gives words l text status)) is due) wrote
+    (subst (λ l. IsNoneOrGiven words l text) is due) wrote

@@ -1,5 +1,5 @@
 -- What was taken from a source and written to a sink when a call of the program ended (this project's own).
-use Rattle.std.specs.Prelude.{ℕ, ◌≡◌, ◌⊎◌, List, [], ◌++◌, length, Option, Some}
+use Rattle.std.specs.Prelude.{ℕ, ◌≡◌, ◌≤◌, ◌⊎◌, List, [], ◌++◌, length, Option, Some}
 use Rattle.std.specs.Io.KnownBytes.{Appends}
 use Rattle.hk_replay.specs.declared.status.Status.{Status}
 use Rattle.hk_replay.specs.declared.status.Status.TheVariants.{Usage, WriteFault, NoMemory}
@@ -15,6 +15,18 @@ pub record Took (bytes taken : List ℕ) (left : Option (List ℕ)) : Type 0 whe
   pub whole : bytes ≡ taken ++ rest
   pub told : left ≡ Some rest
 
+-- of these bytes as many were taken as may be, or fewer
+pub record TookFew (bytes : List ℕ) (left : Option (List ℕ)) : Type 0 where
+  pub taken : List ℕ
+  pub took : Took bytes taken left
+  pub few : length taken ≤ most_taken
+
+-- a text was written that is given with this status
+pub record Answered (words : List (List ℕ)) (bytes : List ℕ) (status : Status) (before now : Option (List ℕ)) : Type 0 where
+  pub text : List ℕ
+  pub given : Gives words bytes text status
+  pub wrote : Appends before now text
+
 -- the front of a text was written
 pub record WroteFront (text : List ℕ) (before now : Option (List ℕ)) : Type 0 where
   pub front : List ℕ
@@ -25,6 +37,10 @@ pub record WroteFront (text : List ℕ) (before now : Option (List ℕ)) : Type 
 -- no more bytes are taken after these
 abbrev pub IsLast : List (List ℕ) → List ℕ → List ℕ → Type 0
 IsLast words taken rest = IsRun words → (rest ≡ []) ⊎ (length taken ≡ most_taken)
+
+-- nothing, or the text that is given
+abbrev pub IsNoneOrGiven : List (List ℕ) → List ℕ → List ℕ → Type 0
+IsNoneOrGiven words bytes text = (text ≡ []) ⊎ ((status : Status) × Gives words bytes text status)
 
 -- the text that is due once these bytes were taken: nothing as long as more are taken, then the whole text
 abbrev pub IsDue : List (List ℕ) → List ℕ → List ℕ → List ℕ → Type 0

@@ -8,6 +8,8 @@ mod program;
 mod reading;
 mod reply;
 mod status;
+#[cfg(test)]
+mod tests;
 mod writing;
 
 pub use laws::one_answer;

@@ -6,12 +6,20 @@ use hk_base::{NoMemory, Outcome, Trap, push_hex};
 use std::alloc::Global;
 
 /// The line that a run prints: its outcome, its count and its bound.
-pub(crate) fn run_line(alloc: Global, outcome: &Outcome, count: u64, bound: u64) -> Result<Vec<u8>, NoMemory>
+pub(crate) fn run_line(
+    alloc: Global,
+    outcome: &Outcome,
+    count: u64,
+    bound: u64,
+) -> Result<Vec<u8>, NoMemory>
     ensures line { IfOk result (λ line. line.items ≡ run_line outcome.now count bound) }
 {
     let mut line = Vec::new(alloc);
     push_outcome(alloc, &mut line, outcome)?;
-    push_text(&mut line, format!(in alloc; " count {count} bound {bound}\n")?.as_str())?;
+    push_text(
+        &mut line,
+        format!(in alloc; " count {count} bound {bound}\n")?.as_str(),
+    )?;
     Ok(line)
 }
 
@@ -27,7 +35,10 @@ fn push_outcome(alloc: Global, line: &mut Vec<u8>, outcome: &Outcome) -> Result<
             push_text(line, "rolledback ")?;
             push_code_and_text(alloc, line, *code, text.as_slice())
         }
-        Outcome::Returned { code } => push_text(line, format!(in alloc; "returned {code}")?.as_str()),
+        Outcome::Returned { code } => push_text(
+            line,
+            format!(in alloc; "returned {code}")?.as_str(),
+        ),
         Outcome::Trapped(trap) => {
             push_text(line, "trapped ")?;
             push_text(line, trap_word(*trap))
@@ -39,7 +50,12 @@ fn push_outcome(alloc: Global, line: &mut Vec<u8>, outcome: &Outcome) -> Result<
 }
 
 // Appends the two things with which a hook ends its run itself.
-fn push_code_and_text(alloc: Global, line: &mut Vec<u8>, code: i64, text: &[u8]) -> Result<(), NoMemory>
+fn push_code_and_text(
+    alloc: Global,
+    line: &mut Vec<u8>,
+    code: i64,
+    text: &[u8],
+) -> Result<(), NoMemory>
     ensures pushed { OnOk result (line.new.items ≡ line.old.items ++ code_and_text code text.now) }
 {
     push_text(line, format!(in alloc; "{code} ")?.as_str())?;

@@ -1,10 +1,10 @@
 //! The program.
-ghost use Rattle.std.specs.Prelude.{◌≡◌, ◌≤◌, ◌⊎◌, ◌↔◌, ◌∷◌, [], List, ℕ, Some, map, codes, length, IsTrue, string_bytes};
+ghost use Rattle.std.specs.Prelude.{◌≡◌, ◌≢◌, ◌≤◌, ◌⊎◌, ◌↔◌, ◌∷◌, [], List, ℕ, Some, map, codes, length, IsTrue, string_bytes};
 ghost use Rattle.std.specs.Io.KnownBytes.{Appends};
 ghost use Rattle.hk_base.specs.Outside.{Rose};
 ghost use Rattle.hk_replay.specs.declared.status.Status.{Status};
 ghost use Rattle.hk_replay.specs.Answers.{IsRun, IsAnswer, Gives};
-ghost use Rattle.hk_replay.specs.Moved.{Took, WroteFront, StopsAfter, TellsUsage, most_taken};
+ghost use Rattle.hk_replay.specs.Moved.{Answered, IsNoneOrGiven, StopsAfter, TellsUsage, TookFew, WroteFront};
 
 use crate::reading::{ReadStop, read_up_to};
 use crate::reply::reply_to;
@@ -20,58 +20,47 @@ const MOST_TAKEN: usize = 379;
 ///
 /// `run` reads an input of one `hook` line and the line `end`, checks the hook's code, runs it once with argument 0, and
 /// prints the line of its ending. All other words print the usage line.
-pub fn top<S: Source, K: Sink>(alloc: Global, words: &[String], source: &mut S, sink: &mut K) -> Status
-    // What was written and answered is what the definitions give for the words and all bytes of the source.
+pub fn top<S: Source, K: Sink>(
+    alloc: Global,
+    words: &[String],
+    source: &mut S,
+    sink: &mut K,
+) -> Status
+    // An answer and what was written are those that are given for the words and all bytes of the source.
     ensures answered { IsAnswer result → (bytes : List ℕ) → S.left source.old ≡ Some bytes →
-        (text : List ℕ) × Gives (map string_bytes words.now) bytes text result × Appends (K.written sink.old) (K.written sink.new) text }
+        Answered (map string_bytes words.now) bytes result (K.written sink.old) (K.written sink.new) }
 
-    // Without a fault it is that answer, or want of memory.
-    ensures exact { (Rose (S.faults source.old) (S.faults source.new) → ⊥) → (Rose (K.faults sink.old) (K.faults sink.new) → ⊥) →
-        (bytes : List ℕ) → S.left source.old ≡ Some bytes → (text : List ℕ) (status : Status) →
+    // Without a fault it answers what is given, or want of memory.
+    ensures exact { ¬ Rose (S.faults source.old) (S.faults source.new) → ¬ Rose (K.faults sink.old) (K.faults sink.new) →
+        (bytes text : List ℕ) (status : Status) → S.left source.old ≡ Some bytes →
         Gives (map string_bytes words.now) bytes text status → (result ≡ status) ⊎ (result ≡ Status.NoMemory) }
 
-    // Words that are no command: the usage line, and nothing is taken.
-    ensures usage { (IsRun (map string_bytes words.now) → ⊥) → TellsUsage result (K.written sink.old) (K.written sink.new) }
-    ensures untouched { (IsRun (map string_bytes words.now) → ⊥) → source.new ≡ source.old }
-    ensures no_usage { IsRun (map string_bytes words.now) → result ≡ Status.Usage → ⊥ }
+    // Words that are no command get the usage line, and nothing is taken.
+    ensures usage { ¬ IsRun (map string_bytes words.now) → TellsUsage result (K.written sink.old) (K.written sink.new) }
+    ensures untouched { ¬ IsRun (map string_bytes words.now) → source.new ≡ source.old }
+    ensures no_usage { IsRun (map string_bytes words.now) → result ≢ Status.Usage }
 
-    // Faults have a cause, and the counts never fall.
+    // A fault has its cause, and no count falls.
     ensures read_fault { result ≡ Status.ReadFault → Rose (S.faults source.old) (S.faults source.new) }
     ensures write_fault { result ≡ Status.WriteFault → Rose (K.faults sink.old) (K.faults sink.new) }
     ensures source_count { S.faults source.old ≤ S.faults source.new }
     ensures sink_count { K.faults sink.old ≤ K.faults sink.new }
 
     // After a fault or want of memory, the front of the text that is due was written.
-    ensures stopped { (IsAnswer result → ⊥) → (bytes : List ℕ) → S.left source.old ≡ Some bytes →
+    ensures stopped { ¬ IsAnswer result → (bytes : List ℕ) → S.left source.old ≡ Some bytes →
         StopsAfter (map string_bytes words.now) bytes (S.left source.new) (K.written sink.old) (K.written sink.new) }
-    ensures taken { (bytes : List ℕ) → S.left source.old ≡ Some bytes →
-        (taken : List ℕ) × Took bytes taken (S.left source.new) × (length taken ≤ most_taken) }
-    ensures not_too_long { result ≡ Status.TooLong → ⊥ }
-{
-    perform(alloc, words, source, sink)
-}
 
-// The program, with each clause of `top` but that on answers without a fault.
-fn perform<S: Source, K: Sink>(alloc: Global, words: &[String], source: &mut S, sink: &mut K) -> Status
-    ensures answered { IsAnswer result → (bytes : List ℕ) → S.left source.old ≡ Some bytes →
-        (text : List ℕ) × Gives (map string_bytes words.now) bytes text result × Appends (K.written sink.old) (K.written sink.new) text }
-    ensures usage { (IsRun (map string_bytes words.now) → ⊥) → TellsUsage result (K.written sink.old) (K.written sink.new) }
-    ensures untouched { (IsRun (map string_bytes words.now) → ⊥) → source.new ≡ source.old }
-    ensures no_usage { IsRun (map string_bytes words.now) → result ≡ Status.Usage → ⊥ }
-    ensures read_fault { result ≡ Status.ReadFault → Rose (S.faults source.old) (S.faults source.new) }
-    ensures write_fault { result ≡ Status.WriteFault → Rose (K.faults sink.old) (K.faults sink.new) }
-    ensures source_count { S.faults source.old ≤ S.faults source.new }
-    ensures sink_count { K.faults sink.old ≤ K.faults sink.new }
-    ensures stopped { (IsAnswer result → ⊥) → (bytes : List ℕ) → S.left source.old ≡ Some bytes →
-        StopsAfter (map string_bytes words.now) bytes (S.left source.new) (K.written sink.old) (K.written sink.new) }
-    ensures taken { (bytes : List ℕ) → S.left source.old ≡ Some bytes →
-        (taken : List ℕ) × Took bytes taken (S.left source.new) × (length taken ≤ most_taken) }
-    ensures not_too_long { result ≡ Status.TooLong → ⊥ }
+    ensures taken { (bytes : List ℕ) → S.left source.old ≡ Some bytes → TookFew bytes (S.left source.new) }
+    ensures not_too_long { result ≢ Status.TooLong }
 {
     if is_run(words) {
         run(alloc, source, sink)
     } else {
-        finish(sink, b"usage: hooks check | run | replay | demo N\n", Status::Usage)
+        finish(
+            sink,
+            b"usage: hooks check | run | replay | demo N\n",
+            Status::Usage,
+        )
     }
 }
 
@@ -87,17 +76,16 @@ fn is_run(words: &[String]) -> bool
 // The command `run`.
 fn run<S: Source, K: Sink>(alloc: Global, source: &mut S, sink: &mut K) -> Status
     ensures answered { IsAnswer result → (bytes : List ℕ) → S.left source.old ≡ Some bytes →
-        (text : List ℕ) × Gives (codes "run" ∷ []) bytes text result × Appends (K.written sink.old) (K.written sink.new) text }
-    ensures no_usage { result ≡ Status.Usage → ⊥ }
+        Answered (codes "run" ∷ []) bytes result (K.written sink.old) (K.written sink.new) }
+    ensures no_usage { result ≢ Status.Usage }
     ensures read_fault { result ≡ Status.ReadFault → Rose (S.faults source.old) (S.faults source.new) }
     ensures write_fault { result ≡ Status.WriteFault → Rose (K.faults sink.old) (K.faults sink.new) }
     ensures source_count { S.faults source.old ≤ S.faults source.new }
     ensures sink_count { K.faults sink.old ≤ K.faults sink.new }
-    ensures stopped { (IsAnswer result → ⊥) → (bytes : List ℕ) → S.left source.old ≡ Some bytes →
+    ensures stopped { ¬ IsAnswer result → (bytes : List ℕ) → S.left source.old ≡ Some bytes →
         StopsAfter (codes "run" ∷ []) bytes (S.left source.new) (K.written sink.old) (K.written sink.new) }
-    ensures taken { (bytes : List ℕ) → S.left source.old ≡ Some bytes →
-        (taken : List ℕ) × Took bytes taken (S.left source.new) × (length taken ≤ most_taken) }
-    ensures not_too_long { result ≡ Status.TooLong → ⊥ }
+    ensures taken { (bytes : List ℕ) → S.left source.old ≡ Some bytes → TookFew bytes (S.left source.new) }
+    ensures not_too_long { result ≢ Status.TooLong }
 {
     match read_up_to(alloc, MOST_TAKEN, source) {
         Ok(bytes) => answer(alloc, bytes.as_slice(), sink),
@@ -108,11 +96,11 @@ fn run<S: Source, K: Sink>(alloc: Global, source: &mut S, sink: &mut K) -> Statu
 
 // Writes what `run` gives for these bytes.
 fn answer<K: Sink>(alloc: Global, bytes: &[u8], sink: &mut K) -> Status
-    ensures answered { IsAnswer result → (text : List ℕ) × Gives (codes "run" ∷ []) bytes.now text result
-        × Appends (K.written sink.old) (K.written sink.new) text }
-    ensures stopped { (IsAnswer result → ⊥) → (text : List ℕ) × ((text ≡ []) ⊎ ((status : Status) × Gives (codes "run" ∷ []) bytes.now text status))
+    ensures answered { IsAnswer result →
+        Answered (codes "run" ∷ []) bytes.now result (K.written sink.old) (K.written sink.new) }
+    ensures stopped { ¬ IsAnswer result → (text : List ℕ) × IsNoneOrGiven (codes "run" ∷ []) bytes.now text
         × WroteFront text (K.written sink.old) (K.written sink.new) }
-    ensures no_read_fault { result ≡ Status.ReadFault → ⊥ }
+    ensures no_read_fault { result ≢ Status.ReadFault }
     ensures write_fault { result ≡ Status.WriteFault → Rose (K.faults sink.old) (K.faults sink.new) }
     ensures sink_count { K.faults sink.old ≤ K.faults sink.new }
 {
@@ -126,8 +114,8 @@ fn answer<K: Sink>(alloc: Global, bytes: &[u8], sink: &mut K) -> Status
 fn finish<K: Sink>(sink: &mut K, text: &[u8], status: Status) -> Status
     requires answer { IsAnswer status }
     ensures whole { IsAnswer result → (result ≡ status) × Appends (K.written sink.old) (K.written sink.new) text.now }
-    ensures front { (IsAnswer result → ⊥) → WroteFront text.now (K.written sink.old) (K.written sink.new) }
-    ensures no_read_fault { result ≡ Status.ReadFault → ⊥ }
+    ensures front { ¬ IsAnswer result → WroteFront text.now (K.written sink.old) (K.written sink.new) }
+    ensures no_read_fault { result ≢ Status.ReadFault }
     ensures write_fault { result ≡ Status.WriteFault → Rose (K.faults sink.old) (K.faults sink.new) }
     ensures sink_count { K.faults sink.old ≤ K.faults sink.new }
 {

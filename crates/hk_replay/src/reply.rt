@@ -25,7 +25,10 @@ pub(crate) fn reply_to(alloc: Global, bytes: &[u8]) -> Result<Reply, NoMemory>
     match code_of(alloc, bytes)? {
         None => {
             let text = Vec::from_slice(alloc, b"bad 0 not_yet\n")?;
-            Ok(Reply { text, status: Status::BadInput })
+            Ok(Reply {
+                text,
+                status: Status::BadInput,
+            })
         }
         Some(code) => reply_to_code(alloc, bytes, code.as_slice()),
     }
@@ -39,11 +42,17 @@ fn reply_to_code(alloc: Global, bytes: &[u8], code: &[u8]) -> Result<Reply, NoMe
     match check(alloc, code) {
         Ok(checked) => {
             let text = run_to_end(alloc, &checked)?;
-            Ok(Reply { text, status: Status::Done })
+            Ok(Reply {
+                text,
+                status: Status::Done,
+            })
         }
         Err(CheckFault::NotYet) => {
             let text = Vec::from_slice(alloc, b"refused not yet\n")?;
-            Ok(Reply { text, status: Status::HookRefused })
+            Ok(Reply {
+                text,
+                status: Status::HookRefused,
+            })
         }
         Err(CheckFault::NoMemory) => Err(AllocError),
     }

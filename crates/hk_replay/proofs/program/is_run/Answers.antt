@@ -23,6 +23,6 @@ decided texts word text r one same is =
 pub returns : goal.returns
 returns c = record {
   run = decided _ (string_bytes c.word-item.result) c.as_str.result.now c.eq.result
-    (ap (map string_bytes) (alone c.args.words.now c.word-item.result (omega arith) c.in-len1.len_below c.word-item.is))
-    c.as_str.ensures.value c.eq.ensures
+      (ap (map string_bytes) (alone c.args.words.now c.word-item.result (omega arith) c.in-len1.len_below c.word-item.is))
+      c.as_str.ensures.value c.eq.ensures;
 }

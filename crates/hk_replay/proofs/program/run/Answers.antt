@@ -7,7 +7,7 @@ use Rattle.hk_replay.proofs.program.run.Goals as goal
 pub returns-in-Ok-clause-answered : goal.returns-in-Ok-clause-answered
 returns-in-Ok-clause-answered g c = λ answer bytes told.
     let read = c.in-Ok.ensures.taken in
-    answered_all _ bytes c.as_slice.result.now read.0 _ _ c.answer.result told read.2 (c.as_slice.ensures.value ∙ read.3)
+    answered_all _ bytes c.as_slice.result.now read.0 _ _ _ _ c.answer.result told read.2 (c.as_slice.ensures.value ∙ read.3)
     (subst (λ l. (length l ≡ 379) ⊎ IsAtEnd (g.S.Source.left c.read_up_to.new.source)) read.3 c.in-Ok.ensures.all)
     (c.answer.ensures.answered answer)
 

@@ -6,15 +6,20 @@ pub returns-in_ok-text-in-Ok : goal.returns-in_ok-text-in-Ok
 returns-in_ok-text-in-Ok c =
     let taken = c.in-Ok.ensures.taken in
     record {
-      given = (c.args.code.now, refl, c.requires.input, record {
-        ops = c.in-Ok.checked;
-        taken = taken;
-        run = c.in_ok-text-in-Ok.ensures.line taken.tree taken.body.reads
-      })
+      given = (
+        c.args.code.now,
+        refl,
+        c.requires.input,
+        record {
+          ops = c.in-Ok.checked;
+          taken = taken;
+          run = c.in_ok-text-in-Ok.ensures.line taken.tree taken.body.reads;
+        },
+      );
     }
 
 -- the code is taken with no instructions
 pub returns-in_ok-text-in-Err-NotYet : goal.returns-in_ok-text-in-Err-NotYet
 returns-in_ok-text-in-Err-NotYet c = record {
-  given = (c.args.code.now, refl, c.requires.input, c.in-Err-NotYet.ensures.not_yet (ap Err c.in-Err-NotYet.field-0-is), c.in_ok-text-in-Err-NotYet.ensures.items)
+  given = (c.args.code.now, refl, c.requires.input, c.in-Err-NotYet.ensures.not_yet (ap Err c.in-Err-NotYet.field-0-is), c.in_ok-text-in-Err-NotYet.ensures.items);
 }

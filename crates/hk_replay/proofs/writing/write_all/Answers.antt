@@ -18,7 +18,7 @@ loop-rest-preserved g c =
         front_grows c.args.text.now before.0 rest count before.1,
         writes_more _ _ _ _ _ before.2 c.in_ok-count.ensures.moved,
       );
-      later = omega (arith, c.loop-rest.invariant.later, c.in_ok-count.ensures.never_falls)
+      later = omega (arith, c.loop-rest.invariant.later, c.in_ok-count.ensures.never_falls);
     }
 
 pub returns-in_err-count-clause-front : goal.returns-in_err-count-clause-front

@@ -6,7 +6,7 @@ use Rattle.hk_replay.proofs.writing.write_all.Given as goal
 abbrev pub invariant-loop-rest : goal.invariant-loop-rest
 invariant-loop-rest g l = record {
   wrote : (front : List ℕ) × (l.text ≡ front ++ l.rest) × Appends (g.K.Sink.written l.initial.sink) (g.K.Sink.written l.sink) front;
-  later : g.K.Sink.faults l.initial.sink ≤ g.K.Sink.faults l.sink
+  later : g.K.Sink.faults l.initial.sink ≤ g.K.Sink.faults l.sink;
 }
 
 abbrev pub decreases-loop-rest : goal.decreases-loop-rest
