@@ -1,0 +1,6 @@
+pub mod Cuts
+pub mod OneCut
+pub mod Ranks
+pub mod Results
+pub mod Sums
+pub mod Wholes

@@ -1,0 +1,4 @@
+-- Decimals of sixteen digits: their values, the cut, and what each operation answers.
+pub mod Cut
+pub mod Operations
+pub mod Value
