@@ -1,11 +1,11 @@
 -- Cuts by products with powers of ten that aren't negative, and what follows for the definition.
-use Rattle.std.proofs.Common.{◌≡◌, ℕ, zero, suc, ◌+◌, ◌-◌, ◌*◌, ◌/◌, ◌^◌, ◌<◌, ◌≤◌, ◌⊎◌, ◌↔◌, inl, inr, refl, sym, ap, add_comm, subst, ◌∙◌, arith, ℤ, pos, negsuc, neg_ℤ, ◌+ℤ◌, ◌-ℤ◌, unsigned_abs}
-use Rattle.std.proofs.Math.Nat.{one-le-pow, mul-le-mul_right, mul-lt-mul_of_pos_right, le_of_mul-le-mul_right, lt_of_mul-lt-mul_right, mul-le-mul, mul-le-mul_left, pow-suc}
+use Rattle.std.proofs.Common.{◌≡◌, ℕ, zero, suc, ◌+◌, ◌-◌, ◌*◌, ◌^◌, ◌<◌, ◌≤◌, ◌⊎◌, ◌↔◌, inl, inr, refl, sym, ap, add_comm, subst, ◌∙◌, arith, ℤ, pos, negsuc, neg_ℤ, ◌+ℤ◌, ◌-ℤ◌, unsigned_abs}
+use Rattle.std.proofs.Math.Nat.{one-le-pow, mul-le-mul_right, mul-lt-mul_of_pos_right, le_of_mul-le-mul_right, lt_of_mul-lt-mul_right, mul-le-mul_left, pow-suc}
 use Rattle.std.proofs.lemmas.Nat.{pow-add}
 use Rattle.std.proofs.lemmas.Bool.{cases_lt}
 use Rattle.std.proofs.lemmas.Int.{ints}
 use Rattle.xfl.specs.Value.{tens}
-use Rattle.xfl.specs.Cut.{IsCut, IsExact, EachHasCut, HasOneCut}
+use Rattle.xfl.specs.Cut.{IsCut, IsExact}
 
 -- `IsCut` with both exponents raised alike, until neither is negative
 pub record Cuts (p q k m e : ℕ) : Type 0 where
@@ -41,16 +41,16 @@ pub record Raised (a b x y : ℕ) : Type 0 where
 pub raised : (k e z : ℤ) (k' e' : ℕ) → k +ℤ z ≡ pos k' → e +ℤ z ≡ pos e' → Raised (tens (e -ℤ k)) (tens (k -ℤ e)) (10 ^ e') (10 ^ k')
 raised k e z k' e' is_k is_e =
     elim (apart k' e') [
-      inl (d, h) ↦
-        let a = tens_of (e -ℤ k) d (omega (arith, ints)) in
-        let b = tens_neg (k -ℤ e) d (omega (arith, ints)) in
-        let w : 10 ^ e' ≡ 10 ^ d * 10 ^ k' = ap (λ t. 10 ^ t) (h ∙ add_comm k' d) ∙ pow-add 10 d k' in
-        record { factor = 10 ^ k'; some = ten_pos k'; left = w ∙ ap (λ t. t * 10 ^ k') (sym a); right = omega (arith, ap (λ t. t * 10 ^ k') b) }
-    | inr (d, h) ↦
-        let a = tens_neg (e -ℤ k) d (omega (arith, ints)) in
-        let b = tens_of (k -ℤ e) d (omega (arith, ints)) in
-        let w : 10 ^ k' ≡ 10 ^ d * 10 ^ e' = ap (λ t. 10 ^ t) (h ∙ add_comm e' d) ∙ pow-add 10 d e' in
-        record { factor = 10 ^ e'; some = ten_pos e'; left = omega (arith, ap (λ t. t * 10 ^ e') a); right = w ∙ ap (λ t. t * 10 ^ e') (sym b) }
+      | inl (d, h) ↦
+          let a = tens_of (e -ℤ k) d (omega (arith, ints)) in
+          let b = tens_neg (k -ℤ e) d (omega (arith, ints)) in
+          let w : 10 ^ e' ≡ 10 ^ d * 10 ^ k' = ap (λ t. 10 ^ t) (h ∙ add_comm k' d) ∙ pow-add 10 d k' in
+          record { factor = 10 ^ k'; some = ten_pos k'; left = w ∙ ap (λ t. t * 10 ^ k') (sym a); right = omega (arith, ap (λ t. t * 10 ^ k') b) }
+      | inr (d, h) ↦
+          let a = tens_neg (e -ℤ k) d (omega (arith, ints)) in
+          let b = tens_of (k -ℤ e) d (omega (arith, ints)) in
+          let w : 10 ^ k' ≡ 10 ^ d * 10 ^ e' = ap (λ t. 10 ^ t) (h ∙ add_comm e' d) ∙ pow-add 10 d e' in
+          record { factor = 10 ^ e'; some = ten_pos e'; left = omega (arith, ap (λ t. t * 10 ^ e') a); right = w ∙ ap (λ t. t * 10 ^ e') (sym b) }
     ]
 
 -- the relations of the definition with the raised exponents, and back
@@ -58,7 +58,8 @@ to_products : (a b x y m p q : ℕ) → Raised a b x y → m * q * a ≤ p * b �
 to_products a b x y m p q r low high =
     rw (r.left, r.right) (
       omega (arith, mul-le-mul_right r.factor low),
-      omega (arith, mul-lt-mul_of_pos_right high r.some))
+      omega (arith, mul-lt-mul_of_pos_right high r.some),
+    )
 
 of_products : (a b x y m p q : ℕ) → Raised a b x y → m * q * x ≤ p * y → p * y < (m + 1) * q * x → (m * q * a ≤ p * b) × (p * b < (m + 1) * q * a)
 of_products a b x y m p q r low high =
@@ -121,8 +122,8 @@ floor_below p q n k l m e (suc d) h long low high cuts =
 pub cuts_of_floor : (p q n k l m e : ℕ) → 10 ^ 15 ≤ n → n * q * 10 ^ k ≤ p * 10 ^ l → p * 10 ^ l < (n + 1) * q * 10 ^ k → Cuts n 1 k m e → Cuts p q l m e
 cuts_of_floor p q n k l m e long low high cuts =
     elim (apart k e) [
-      inl (d, h) ↦ floor_above p q n k l m e d h low high cuts
-    | inr (d, h) ↦ floor_below p q n k l m e d h long low high cuts
+      | inl (d, h) ↦ floor_above p q n k l m e d h low high cuts
+      | inr (d, h) ↦ floor_below p q n k l m e d h long low high cuts
     ]
 
 -- exponents raised far enough aren't negative
@@ -137,8 +138,8 @@ floor_cut p q n k m e long low high cut =
     let (k', is_k) = at_least_zero k c (omega arith) in
     let (e', is_e) = at_least_zero e c (omega arith) in
     of_cuts p q k m e (pos c) k' e' is_k is_e
-      (cuts_of_floor p q n k' k' m e' long (mul-le-mul_right (10 ^ k') low) (mul-lt-mul_of_pos_right high (ten_pos k'))
-        (to_cuts n 1 k m e (pos c) k' e' is_k is_e cut))
+    (cuts_of_floor p q n k' k' m e' long (mul-le-mul_right (10 ^ k') low) (mul-lt-mul_of_pos_right high (ten_pos k'))
+    (to_cuts n 1 k m e (pos c) k' e' is_k is_e cut))
 
 -- nothing is cut off p / q where q divides p, and nothing is cut off the quotient n
 pub floor_exact : (p q n m a b : ℕ) → n * q ≡ p → m * 1 * a ≡ n * b → m * q * a ≡ p * b
@@ -181,7 +182,7 @@ scaled_cut p q s k l m e is cut =
     let cuts = to_cuts (p * 10 ^ s) q l m e (pos c) l' e' is_l is_e cut in
     let same : p * 10 ^ (l' + s) ≡ p * 10 ^ s * 10 ^ l' = rw (pow-add 10 l' s) (omega arith) in
     of_cuts p q k m e (pos c) (l' + s) e' (omega (arith, ints)) is_e
-      (record { low = cuts.low; high = cuts.high; below = rw same cuts.below; above = rw same cuts.above })
+    (record { low = cuts.low; high = cuts.high; below = rw same cuts.below; above = rw same cuts.above })
 
 pub scaled_exact : (p q s : ℕ) (k l : ℤ) (m : ℕ) (e : ℤ) → l +ℤ pos s ≡ k → IsExact (p * 10 ^ s) q l m e ↔ IsExact p q k m e
 scaled_exact p q s k l m e is =
@@ -191,9 +192,10 @@ scaled_exact p q s k l m e is =
     let is_k : k +ℤ pos c ≡ pos (l' + s) = omega (arith, ints) in
     let same : p * 10 ^ (l' + s) ≡ p * 10 ^ s * 10 ^ l' = rw (pow-add 10 l' s) (omega arith) in
     let one = raised l e (pos c) l' e' is_l is_e in
-    let two = raised k e (pos c) (l' + s) e' is_k is_e in
-    (λ h. of_equal (tens (e -ℤ k)) (tens (k -ℤ e)) (10 ^ e') (10 ^ (l' + s)) (m * q) p two (to_equal (tens (e -ℤ l)) (tens (l -ℤ e)) (10 ^ e') (10 ^ l') (m * q) (p * 10 ^ s) one h ∙ sym same),
-     λ h. of_equal (tens (e -ℤ l)) (tens (l -ℤ e)) (10 ^ e') (10 ^ l') (m * q) (p * 10 ^ s) one (to_equal (tens (e -ℤ k)) (tens (k -ℤ e)) (10 ^ e') (10 ^ (l' + s)) (m * q) p two h ∙ same))
+    let two = raised k e (pos c) (l' + s) e' is_k is_e in (
+      λ h. of_equal (tens (e -ℤ k)) (tens (k -ℤ e)) (10 ^ e') (10 ^ (l' + s)) (m * q) p two (to_equal (tens (e -ℤ l)) (tens (l -ℤ e)) (10 ^ e') (10 ^ l') (m * q) (p * 10 ^ s) one h ∙ sym same),
+      λ h. of_equal (tens (e -ℤ l)) (tens (l -ℤ e)) (10 ^ e') (10 ^ l') (m * q) (p * 10 ^ s) one (to_equal (tens (e -ℤ k)) (tens (k -ℤ e)) (10 ^ e') (10 ^ (l' + s)) (m * q) p two h ∙ same),
+    )
 
 -- and the other way
 pub raised_cut : (p q s : ℕ) (k l : ℤ) (m : ℕ) (e : ℤ) → l +ℤ pos s ≡ k → IsCut p q k m e → IsCut (p * 10 ^ s) q l m e
@@ -205,7 +207,7 @@ raised_cut p q s k l m e is cut =
     let cuts = to_cuts p q k m e (pos c) (l' + s) e' is_k is_e cut in
     let same : p * 10 ^ (l' + s) ≡ p * 10 ^ s * 10 ^ l' = rw (pow-add 10 l' s) (omega arith) in
     of_cuts (p * 10 ^ s) q l m e (pos c) l' e' is_l is_e
-      (record { low = cuts.low; high = cuts.high; below = rw (← same) cuts.below; above = rw (← same) cuts.above })
+    (record { low = cuts.low; high = cuts.high; below = rw (← same) cuts.below; above = rw (← same) cuts.above })
 
 -- a whole number v of times 10 ^ l has the cut of a whole number n of times 10 ^ k just below it
 pub whole_floor_cut : (v n a : ℕ) (k l : ℤ) (m : ℕ) (e : ℤ) → l +ℤ pos a ≡ k → 10 ^ 15 ≤ n → n * 10 ^ a ≤ v → v < (n + 1) * 10 ^ a → IsCut n 1 k m e → IsCut v 1 l m e

@@ -1,10 +1,10 @@
 -- A number above 0 has a cut, and only one.
-use Rattle.std.proofs.Common.{◌≡◌, ℕ, zero, suc, ◌+◌, ◌-◌, ◌*◌, ◌/◌, ◌%◌, ◌^◌, ◌<◌, ◌≤◌, inl, inr, refl, sym, ap, subst, ◌∙◌, arith, ℤ, pos, negsuc, ◌+ℤ◌, ◌-ℤ◌, unsigned_abs}
-use Rattle.std.proofs.Math.Nat.{pow-suc, mul-le-mul_left, mul-le-mul_right, le_of_mul-le-mul_right, lt_of_mul-lt-mul_right, mul-lt-mul_of_pos_right, div-mul-le_self, lt-div-mul-add}
+use Rattle.std.proofs.Common.{◌≡◌, ℕ, zero, suc, ◌+◌, ◌-◌, ◌*◌, ◌/◌, ◌^◌, ◌<◌, ◌≤◌, inl, inr, ap, subst, ◌∙◌, arith, pos, ◌+ℤ◌, ◌-ℤ◌, unsigned_abs}
+use Rattle.std.proofs.Math.Nat.{pow-suc, mul-le-mul_left, mul-le-mul_right, lt_of_mul-lt-mul_right, div-mul-le_self, lt-div-mul-add}
 use Rattle.std.proofs.lemmas.Bool.{cases_lt}
 use Rattle.std.proofs.lemmas.Nat.{pow-add, le-div, div_below}
 use Rattle.std.proofs.lemmas.Int.{ints}
-use Rattle.xfl.specs.Cut.{IsCut, EachHasCut, HasOneCut}
+use Rattle.xfl.specs.Cut.{EachHasCut, HasOneCut}
 use Rattle.xfl.proofs.Cuts.{Cuts, ten_pos, ten_le, at_least_zero, to_cuts, of_cuts, cuts_of_floor}
 
 -- two cuts: the lower exponent is not below the other one
@@ -31,10 +31,10 @@ same_mantissa p q k m e n f h one two =
 same_exponent : (p q k m e n f : ℕ) → 0 < q → Cuts p q k m e → Cuts p q k n f → f ≡ e
 same_exponent p q k m e n f some one two =
     elim (cases_lt e f) [
-      inl h ↦ absurd (not_below p q k m e n f (f - suc e) some (omega arith) one two)
-    | inr h ↦ elim (cases_lt f e) [
-        inl g ↦ absurd (not_below p q k n f m e (e - suc f) some (omega arith) two one)
-      | inr g ↦ omega arith
+      | inl h ↦ absurd (not_below p q k m e n f (f - suc e) some (omega arith) one two)
+      | inr h ↦ elim (cases_lt f e) [
+        | inl g ↦ absurd (not_below p q k n f m e (e - suc f) some (omega arith) two one)
+        | inr g ↦ omega arith
       ]
     ]
 
@@ -54,10 +54,10 @@ place : (fuel n : ℕ) → n < fuel → 10 ^ 15 ≤ n → (d : ℕ) × (10 ^ 15 
 place zero n h long = absurd (omega arith)
 place (suc fuel) n h long =
     elim (cases_lt n (10 ^ 16)) [
-      inl small ↦ (0, omega arith, omega arith)
-    | inr big ↦
-        let (d, low, high) = place fuel (n / 10) (omega arith) (omega arith) in
-        (suc d, rw (pow-suc 10 d) (omega (arith, low)), rw (pow-suc 10 d) (omega (arith, high)))
+      | inl small ↦ (0, omega arith, omega arith)
+      | inr big ↦
+          let (d, low, high) = place fuel (n / 10) (omega arith) (omega arith) in
+          (suc d, rw (pow-suc 10 d) (omega (arith, low)), rw (pow-suc 10 d) (omega (arith, high)))
     ]
 
 cut_whole : (n d : ℕ) → 10 ^ 15 * 10 ^ d ≤ n → n < 10 ^ 16 * 10 ^ d → Cuts n 1 0 (n / 10 ^ d) d
@@ -87,7 +87,7 @@ each_has_cut p q k some divisible =
     let long : 10 ^ 15 ≤ n = le-div (10 ^ 15) (p * 10 ^ a) q divisible (long_enough p q some) in
     let (d, low, high) = place (suc n) n (omega arith) long in
     let cuts = cuts_of_floor p q n 0 a (n / 10 ^ d) d long
-      (omega (arith, div-mul-le_self (p * 10 ^ a) q))
-      (omega (arith, lt-div-mul-add {a = p * 10 ^ a} {b = q} divisible))
-      (cut_whole n d low high) in
+    (omega (arith, div-mul-le_self (p * 10 ^ a) q))
+    (omega (arith, lt-div-mul-add {a = p * 10 ^ a} {b = q} divisible))
+    (cut_whole n d low high) in
     (n / 10 ^ d, k +ℤ pos d -ℤ pos a, of_cuts p q k (n / 10 ^ d) (k +ℤ pos d -ℤ pos a) (pos a -ℤ k) a d (omega (arith, ints)) (omega (arith, ints)) cuts)

@@ -1,5 +1,5 @@
 -- The order of the ranks is the order of the values.
-use Rattle.std.proofs.Common.{◌≡◌, ℕ, zero, suc, ◌+◌, ◌-◌, ◌*◌, ◌^◌, ◌<◌, ◌≤◌, ◌⊎◌, refl, sym, ap, subst, ◌∙◌, arith, Bool, true, false, inl, inr, ◌≤ℤ◌, ◌<ℤ◌, ℤ, pos, negsuc, ◌+ℤ◌, unsigned_abs, eqb}
+use Rattle.std.proofs.Common.{◌≡◌, ℕ, ◌+◌, ◌*◌, ◌^◌, ◌<◌, ◌≤◌, ◌⊎◌, refl, sym, ap, subst, ◌∙◌, arith, Bool, true, false, inl, inr, ◌<ℤ◌, pos, ◌+ℤ◌, unsigned_abs, eqb}
 use Rattle.std.proofs.lemmas.Bool.Decides.{nat_tests}
 use Rattle.std.proofs.Math.Nat.{mul-lt-mul_of_pos_right, mul-le-mul, pow-le-pow_right}
 use Rattle.std.proofs.lemmas.Bool.{cases_lt}
@@ -9,7 +9,7 @@ use Rattle.std.specs.Ordering.{int_cmp, MatchOrdering}
 use Rattle.std.proofs.Common.{Less, Equal, Greater}
 use Rattle.std.specs.declared.cmp.Ordering.{Ordering}
 use Rattle.std.specs.Cmp.{int_ranks, int_cmp_is}
-use Rattle.xfl.specs.Value.{Decimal, nought, IsXfl, IsNumber, signed, scaled, rank_of}
+use Rattle.xfl.specs.Value.{Decimal, IsXfl, IsNumber, signed, scaled, rank_of}
 use Rattle.xfl.proofs.Cuts.{ten_pos}
 use Rattle.xfl.proofs.Sums.{place_of, scaled_is}
 
@@ -22,15 +22,15 @@ sizes_rise r s t u (inl one) (inl two) h = absurd (omega (arith, one.0, two.0))
 sizes_rise r s t u (inl one) (inr (b, m, low, high, is, this)) h = omega (arith, one.1, this, mul-lt-mul_of_pos_right {m = 0} {n = m} (omega arith) (ten_pos b))
 sizes_rise r s t u (inr (b, m, low, high, is, this)) (inl two) h = absurd (omega (arith, two.0))
 sizes_rise r s t u (inr (b, m, low, high, is, this)) (inr (c, n, low', high', is', this')) h = elim (cases_lt b c) [
-      inl g ↦
-        let over : 10 ^ (b + 1) ≤ 10 ^ c = pow-le-pow_right {n = 10} (omega arith) (omega arith) in
-        omega (arith, this, this', over, pow-add 10 b 1, mul-lt-mul_of_pos_right high (ten_pos b), mul-le-mul low' over)
-    | inr g ↦
-        let same : b ≡ c = omega (arith, is, is') in
-        let equal : 10 ^ b ≡ 10 ^ c = ap (λ t. 10 ^ t) same in
-        let below : m < n = omega (arith, is, is') in
-        omega (arith, this, this', ap (λ t. n * t) equal, mul-lt-mul_of_pos_right below (ten_pos b))
-    ]
+  | inl g ↦
+      let over : 10 ^ (b + 1) ≤ 10 ^ c = pow-le-pow_right {n = 10} (omega arith) (omega arith) in
+      omega (arith, this, this', over, pow-add 10 b 1, mul-lt-mul_of_pos_right high (ten_pos b), mul-le-mul low' over)
+  | inr g ↦
+      let same : b ≡ c = omega (arith, is, is') in
+      let equal : 10 ^ b ≡ 10 ^ c = ap (λ t. 10 ^ t) same in
+      let below : m < n = omega (arith, is, is') in
+      omega (arith, this, this', ap (λ t. n * t) equal, mul-lt-mul_of_pos_right below (ten_pos b))
+]
 
 sizes_agree : (r s t u : ℕ) → AreSizes r s → AreSizes t u → r ≡ t → s ≡ u
 sizes_agree r s t u (inl one) (inl two) h = omega (arith, one.1, two.1)
@@ -53,9 +53,9 @@ signed_rise false false r s t u one two h = let up : s < u = sizes_rise r s t u 
 signed_rise true true r s t u one two h = let up : u < s = sizes_rise t u r s two one (omega (arith, ints, h)) in omega (arith, ints)
 signed_rise false true r s t u one two h = absurd (omega (arith, ints, h))
 signed_rise true false r s t u one two h = elim (cases_lt 0 r) [
-      inl g ↦ let some : 0 < s = sizes_some r s one g in omega (arith, ints)
-    | inr g ↦ let some : 0 < u = sizes_some t u two (omega (arith, ints, h)) in omega (arith, ints)
-    ]
+  | inl g ↦ let some : 0 < s = sizes_some r s one g in omega (arith, ints)
+  | inr g ↦ let some : 0 < u = sizes_some t u two (omega (arith, ints, h)) in omega (arith, ints)
+]
 
 signed_agree : (n o : Bool) (r s t u : ℕ) → AreSizes r s → AreSizes t u → signed n r ≡ signed o t → signed n s ≡ signed o u
 signed_agree false false r s t u one two h = ap pos (sizes_agree r s t u one two (omega (arith, ints, h)))
@@ -105,5 +105,5 @@ rank_order x y xs ys =
     let fall = signed_rise y.negative x.negative b.rank b.size a.rank a.size b.sizes a.sizes in
     let agree = signed_agree x.negative y.negative a.rank a.size b.rank b.size a.sizes b.sizes in
     rw (a.rank_is, b.rank_is, a.size_is, b.size_is)
-      (int_cmp_is (signed x.negative a.size) (signed y.negative b.size) (int_cmp (signed x.negative a.rank) (signed y.negative b.rank))
-        (carried (int_cmp (signed x.negative a.rank) (signed y.negative b.rank)) rise agree fall (int_ranks (signed x.negative a.rank) (signed y.negative b.rank))))
+    (int_cmp_is (signed x.negative a.size) (signed y.negative b.size) (int_cmp (signed x.negative a.rank) (signed y.negative b.rank))
+    (carried (int_cmp (signed x.negative a.rank) (signed y.negative b.rank)) rise agree fall (int_ranks (signed x.negative a.rank) (signed y.negative b.rank))))

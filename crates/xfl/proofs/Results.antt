@@ -1,13 +1,13 @@
 -- From the digits that the code finds to the answers of the definitions.
-use Rattle.std.proofs.Common.{◌≡◌, ℕ, zero, suc, ◌+◌, ◌-◌, ◌*◌, ◌/◌, ◌%◌, ◌^◌, ◌<◌, ◌≤◌, ◌↔◌, refl, sym, ap, subst, ◌∙◌, arith, Bool, true, false, not, inl, inr, ◌≤ℤ◌, ℤ, pos, negsuc, ◌+ℤ◌, ◌-ℤ◌, to_z, of_z, w64, Result}
-use Rattle.std.proofs.Math.Nat.{div-mul-le_self, lt-div-mul-add, mul-le-mul_right, mul-le-mul_left, mul-lt-mul_of_pos_right}
+use Rattle.std.proofs.Common.{◌≡◌, ℕ, ◌+◌, ◌-◌, ◌*◌, ◌/◌, ◌%◌, ◌^◌, ◌<◌, ◌≤◌, refl, sym, ap, subst, ◌∙◌, arith, Bool, true, false, not, inl, inr, ◌≤ℤ◌, ℤ, pos, negsuc, ◌+ℤ◌, ◌-ℤ◌, to_z, of_z, w64, Result}
+use Rattle.std.proofs.Math.Nat.{div-mul-le_self, lt-div-mul-add, mul-le-mul_right, mul-lt-mul_of_pos_right}
 use Rattle.std.proofs.lemmas.Nat.{pow-add, le-div}
 use Rattle.std.proofs.lemmas.Int.{ints}
 use Rattle.xfl.specs.declared.fault.XflFault.{XflFault}
 use Rattle.std.specs.Bool.{beq}
-use Rattle.xfl.specs.Value.{Decimal, IsXfl, IsNumber, tens}
+use Rattle.xfl.specs.Value.{Decimal, IsXfl, tens}
 use Rattle.xfl.specs.Cut.{IsCut, IsExact}
-use Rattle.xfl.specs.Operations.{Exact, differ, IsRounded, IsRoundedUp, ranged, next_ranged}
+use Rattle.xfl.specs.Operations.{differ, IsRounded, IsRoundedUp, ranged, next_ranged}
 use Rattle.xfl.proofs.Cuts.{ten_pos, floor_cut, floor_exact, of_floor_exact, moved, moved_exact, scaled_cut, scaled_exact}
 
 -- the digits of a whole number whose first one is at a place up to the fifteenth
@@ -36,13 +36,13 @@ tens_pos (negsuc n) = omega arith
 pub quotient_cut : (p q m : ℕ) (e f : ℤ) → f ≡ e → 0 < q → 10 ^ 15 * q ≤ p → IsCut (p / q) 1 (pos 0) m e → IsCut p q (pos 0) m f
 quotient_cut p q m e f is some long cut =
     subst (λ t. IsCut p q (pos 0) m t) (sym is)
-      (floor_cut p q (p / q) (pos 0) m e (le-div (10 ^ 15) p q some long) (div-mul-le_self p q)
-        (omega (arith, lt-div-mul-add {a = p} {b = q} some)) cut)
+    (floor_cut p q (p / q) (pos 0) m e (le-div (10 ^ 15) p q some long) (div-mul-le_self p q)
+    (omega (arith, lt-div-mul-add {a = p} {b = q} some)) cut)
 
 pub quotient_exact : (p q m : ℕ) (e f : ℤ) → f ≡ e → 0 < q → p % q ≡ 0 → IsExact (p / q) 1 (pos 0) m e → IsExact p q (pos 0) m f
 quotient_exact p q m e f is some whole same =
     subst (λ t. IsExact p q (pos 0) m t) (sym is)
-      (floor_exact p q (p / q) m (tens (e -ℤ pos 0)) (tens (pos 0 -ℤ e)) (omega arith) same)
+    (floor_exact p q (p / q) m (tens (e -ℤ pos 0)) (tens (pos 0 -ℤ e)) (omega arith) same)
 
 pub of_quotient_exact : (p q m : ℕ) (e f : ℤ) → f ≡ e → 0 < q → IsCut (p / q) 1 (pos 0) m e → IsExact p q (pos 0) m f → (IsExact (p / q) 1 (pos 0) m e) × (p % q ≡ 0)
 of_quotient_exact p q m e f is some cut same =
@@ -64,14 +64,14 @@ pub of_exact_digits : (negative : Bool) (p q : ℕ) (k : ℤ) (m : ℕ) (e f : �
 of_exact_digits negative p q k m e f r some cut same gives is =
     record {
       nothing = λ h. absurd (some h);
-      something = λ _. (m, f, moved p q k m e f is cut, λ _. gives, λ h. absurd (h ((moved_exact p q k m e f is).0 same)))
+      something = λ _. (m, f, moved p q k m e f is cut, λ _. gives, λ h. absurd (h ((moved_exact p q k m e f is).0 same)));
     }
 
 pub of_cut_digits : (negative : Bool) (p q : ℕ) (k : ℤ) (m : ℕ) (e f : ℤ) (r : Result Decimal XflFault) → (p ≡ 0 → ⊥) → IsCut p q (pos 0) m e → (IsExact p q (pos 0) m e → ⊥) → r ≡ next_ranged negative m f → f ≡ k +ℤ e → IsRoundedUp (record { negative = negative; numerator = p; denominator = q; exponent = k }) r
 of_cut_digits negative p q k m e f r some cut other gives is =
     record {
       nothing = λ h. absurd (some h);
-      something = λ _. (m, f, moved p q k m e f is cut, λ h. absurd (other ((moved_exact p q k m e f is).1 h)), λ _. gives)
+      something = λ _. (m, f, moved p q k m e f is cut, λ h. absurd (other ((moved_exact p q k m e f is).1 h)), λ _. gives);
     }
 
 -- the answer for an exact result that is written otherwise
@@ -95,8 +95,8 @@ scaled_rounded negative p q s k l r is h =
     record {
       nothing = λ z. h.nothing (ap (λ t. t * 10 ^ s) z ∙ omega arith);
       something = λ some.
-        let (m, e, cut, gives) = h.something (omega (arith, mul-lt-mul_of_pos_right some (ten_pos s))) in
-        (m, e, scaled_cut p q s k l m e is cut, gives)
+          let (m, e, cut, gives) = h.something (omega (arith, mul-lt-mul_of_pos_right some (ten_pos s))) in
+          (m, e, scaled_cut p q s k l m e is cut, gives);
     }
 
 pub scaled_rounded_up : (negative : Bool) (p q s : ℕ) (k l : ℤ) (r : Result Decimal XflFault) → l +ℤ pos s ≡ k → IsRoundedUp (record { negative = negative; numerator = p * 10 ^ s; denominator = q; exponent = l }) r → IsRoundedUp (record { negative = negative; numerator = p; denominator = q; exponent = k }) r
@@ -104,9 +104,9 @@ scaled_rounded_up negative p q s k l r is h =
     record {
       nothing = λ z. h.nothing (ap (λ t. t * 10 ^ s) z ∙ omega arith);
       something = λ some.
-        let (m, e, cut, same, other) = h.something (omega (arith, mul-lt-mul_of_pos_right some (ten_pos s))) in
-        let exact = scaled_exact p q s k l m e is in
-        (m, e, scaled_cut p q s k l m e is cut, λ x. same (exact.1 x), λ x. other (λ y. x (exact.0 y)))
+          let (m, e, cut, same, other) = h.something (omega (arith, mul-lt-mul_of_pos_right some (ten_pos s))) in
+          let exact = scaled_exact p q s k l m e is in
+          (m, e, scaled_cut p q s k l m e is cut, λ x. same (exact.1 x), λ x. other (λ y. x (exact.0 y)));
     }
 
 -- two signs that aren't equal

@@ -1,5 +1,5 @@
 -- What each operation on decimals answers: the exact result, cut, then the range rule (this project's own).
-use Rattle.std.specs.Prelude.{ℕ, ◌≡◌, ◌+◌, ◌-◌, ◌*◌, ◌/◌, ◌^◌, ◌<◌, ◌≤◌, ◌==◌, ◌&&◌, ◌⊎◌, nat_lt, Bool, true, false, not, ℤ, pos, negsuc, neg_ℤ, ◌+ℤ◌, ◌-ℤ◌, unsigned_abs, int_lt, if◌then◌else◌, Result, Ok, Err}
+use Rattle.std.specs.Prelude.{ℕ, ◌≡◌, ◌+◌, ◌-◌, ◌*◌, ◌/◌, ◌^◌, ◌<◌, ◌==◌, ◌&&◌, nat_lt, Bool, true, false, not, ℤ, pos, negsuc, neg_ℤ, ◌+ℤ◌, ◌-ℤ◌, unsigned_abs, int_lt, if◌then◌else◌, Result, Ok, Err}
 use Rattle.xfl.specs.declared.fault.XflFault.{XflFault}
 use Rattle.xfl.specs.declared.fault.XflFault.TheVariants.{Overflow, BadPlaces, Negative, TooBig}
 use Rattle.xfl.specs.Value.{Decimal, nought, scaled, tens}
@@ -27,7 +27,7 @@ product x y = record {
   negative = differ x.negative y.negative;
   numerator = x.mantissa * y.mantissa;
   denominator = 1;
-  exponent = x.exponent +ℤ y.exponent
+  exponent = x.exponent +ℤ y.exponent;
 }
 
 -- x / y
@@ -36,7 +36,7 @@ quotient x y = record {
   negative = differ x.negative y.negative;
   numerator = x.mantissa;
   denominator = y.mantissa;
-  exponent = x.exponent -ℤ y.exponent
+  exponent = x.exponent -ℤ y.exponent;
 }
 
 -- x + y, as a whole number of times 10 ^ -96
@@ -49,7 +49,7 @@ share x part all = record {
   negative = x.negative;
   numerator = x.mantissa * part;
   denominator = all;
-  exponent = x.exponent
+  exponent = x.exponent;
 }
 
 -- the range rule: an exponent below -96 gives 0, one above 80 a fault

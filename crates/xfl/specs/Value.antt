@@ -1,5 +1,5 @@
 -- The values of an XFL, the ledger's decimal number (this project's own, after the XFL of the XRPL Hooks).
-use Rattle.std.specs.Prelude.{ℕ, ◌≡◌, ◌+◌, ◌*◌, ◌^◌, ◌<◌, ◌≤◌, ◌⊎◌, ◌==◌, Bool, true, false, not, ℤ, pos, negsuc, neg_ℤ, ◌+ℤ◌, ◌≤ℤ◌, unsigned_abs, if◌then◌else◌}
+use Rattle.std.specs.Prelude.{ℕ, ◌≡◌, ◌+◌, ◌*◌, ◌^◌, ◌<◌, ◌≤◌, ◌⊎◌, ◌==◌, Bool, false, not, ℤ, pos, negsuc, neg_ℤ, ◌+ℤ◌, ◌≤ℤ◌, unsigned_abs, if◌then◌else◌}
 use Rattle.xo_fields.specs.Decimal.{decimal_bits, IsDecimal}
 
 -- a decimal is mantissa * 10 ^ exponent, with a sign

@@ -10,7 +10,11 @@ use crate::value::{ONE, Xfl, ZERO};
 pub fn set(exponent: i32, mantissa: i64) -> Result<Xfl, XflFault>
     ensures { IsRounded (whole mantissa exponent) result }
 {
-    rounded(mantissa < 0, u128::from(mantissa.unsigned_abs()), i64::from(exponent))
+    rounded(
+        mantissa < 0,
+        u128::from(mantissa.unsigned_abs()),
+        i64::from(exponent),
+    )
 }
 
 /// drops * 10^-6.
@@ -135,7 +139,11 @@ fn sum_far(high: Xfl, low: Xfl) -> Result<Xfl, XflFault>
     ensures { IsRounded (total high low) result }
 {
     let larger = u128::from(high.mantissa) * 10;
-    let whole = if high.negative == low.negative { larger } else { larger - 1 };
+    let whole = if high.negative == low.negative {
+        larger
+    } else {
+        larger - 1
+    };
     rounded(high.negative, whole, high.exponent - 1)
 }
 

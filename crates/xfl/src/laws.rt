@@ -4,5 +4,4 @@ ghost use Rattle.xfl.specs.Cut.{EachHasCut, HasOneCut};
 pub fn one_cut()
     ensures some { EachHasCut }
     ensures only { HasOneCut }
-{
-}
+{}

@@ -12,3 +12,6 @@ pub use arithmetic::{divide, from_drops, invert, mulratio, multiply, set, sum, t
 pub use fault::XflFault;
 pub use laws::one_cut;
 pub use value::Xfl;
+
+#[cfg(test)]
+mod tests;

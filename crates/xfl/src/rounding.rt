@@ -113,7 +113,12 @@ pub(crate) fn rounded(negative: bool, whole: u128, exponent: i64) -> Result<Xfl,
 }
 
 /// numerator / denominator * 10^exponent, rounded toward zero.
-pub(crate) fn rounded_quotient(negative: bool, numerator: u128, denominator: u128, exponent: i64) -> Result<Xfl, XflFault>
+pub(crate) fn rounded_quotient(
+    negative: bool,
+    numerator: u128,
+    denominator: u128,
+    exponent: i64,
+) -> Result<Xfl, XflFault>
     requires divisible { 0 < denominator }
     requires long { 0 < numerator → 10 ^ 15 * denominator ≤ numerator }
     requires least { negsuc (2 ^ 40) ≤ℤ exponent }
@@ -128,7 +133,12 @@ pub(crate) fn rounded_quotient(negative: bool, numerator: u128, denominator: u12
 }
 
 /// numerator / denominator * 10^exponent, rounded away from zero.
-pub(crate) fn rounded_up(negative: bool, numerator: u128, denominator: u128, exponent: i64) -> Result<Xfl, XflFault>
+pub(crate) fn rounded_up(
+    negative: bool,
+    numerator: u128,
+    denominator: u128,
+    exponent: i64,
+) -> Result<Xfl, XflFault>
     requires divisible { 0 < denominator }
     requires long { 0 < numerator → 10 ^ 15 * denominator ≤ numerator }
     requires least { negsuc (2 ^ 40) ≤ℤ exponent }

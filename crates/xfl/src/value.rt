@@ -59,7 +59,8 @@ fn number_from_bits(bits: u64) -> Option<Xfl>
 {
     let mantissa = bits % (1 << 54);
     let biased = bits / (1 << 54) % 256;
-    let in_range = (1..=177).contains(&biased) && (1_000_000_000_000_000..10_000_000_000_000_000).contains(&mantissa);
+    let in_range = (1..=177).contains(&biased)
+        && (1_000_000_000_000_000..10_000_000_000_000_000).contains(&mantissa);
     if bits / (1 << 63) == 0 && in_range {
         Some(Xfl {
             negative: bits / (1 << 62) == 0,

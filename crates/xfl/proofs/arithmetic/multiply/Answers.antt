@@ -1,6 +1,5 @@
-use Rattle.std.proofs.Common.{arith, ap, ◌≡◌, ◌∙◌, ◌*◌, ◌^◌, ◌-ℤ◌, pos, refl}
+use Rattle.std.proofs.Common.{arith, ap, ◌≡◌, ◌∙◌, refl}
 use Rattle.std.proofs.lemmas.Int.{ints}
-use Rattle.xfl.specs.Value.{Decimal}
 use Rattle.xfl.proofs.Results.{rounded_as, not_same, xfl_exponent}
 use Rattle.xfl.proofs.arithmetic.multiply.Goals as goal
 
@@ -13,4 +12,4 @@ returns c =
     let x_digits : c.from.result ≡ c.args.x.mantissa = c.from.ensures ∙ ap (λ d. d.mantissa) c.x.view_is in
     let y_digits : c.from-2.result ≡ c.args.y.mantissa = c.from-2.ensures ∙ ap (λ d. d.mantissa) c.y.view_is in
     rounded_as c.rounded.ensures (rw (x_sign, y_sign) (not_same c.args.x.negative c.args.y.negative)) (rw (x_digits, y_digits) refl) refl
-      (omega (arith, ints, x_exponent, xfl_exponent _ c.x.invariant, xfl_exponent _ c.y.invariant, y_exponent))
+    (omega (arith, ints, x_exponent, xfl_exponent _ c.x.invariant, xfl_exponent _ c.y.invariant, y_exponent))
