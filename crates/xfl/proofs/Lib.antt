@@ -1,4 +1,5 @@
 pub mod Cuts
+pub mod Functions
 pub mod OneCut
 pub mod Ranks
 pub mod Results

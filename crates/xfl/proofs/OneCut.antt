@@ -1,10 +1,12 @@
 -- A number above 0 has a cut, and only one.
 use Rattle.std.proofs.Common.{◌≡◌, ℕ, zero, suc, ◌+◌, ◌-◌, ◌*◌, ◌/◌, ◌^◌, ◌<◌, ◌≤◌, inl, inr, ap, subst, ◌∙◌, arith, pos, ◌+ℤ◌, ◌-ℤ◌, unsigned_abs}
 use Rattle.std.proofs.Math.Nat.{pow-suc, mul-le-mul_left, mul-le-mul_right, lt_of_mul-lt-mul_right, div-mul-le_self, lt-div-mul-add}
+use Rattle.std.proofs.Common.{true, false, nat_lt}
 use Rattle.std.proofs.lemmas.Bool.{cases_lt}
+use Rattle.std.proofs.lemmas.Bool.Decides.{nat_tests}
 use Rattle.std.proofs.lemmas.Nat.{pow-add, le-div, div_below}
 use Rattle.std.proofs.lemmas.Int.{ints}
-use Rattle.xfl.specs.Cut.{EachHasCut, HasOneCut}
+use Rattle.xfl.specs.Cut.{IsCut, EachHasCut, HasOneCut, beyond, cut16}
 use Rattle.xfl.proofs.Cuts.{Cuts, ten_pos, ten_le, at_least_zero, to_cuts, of_cuts, cuts_of_floor}
 
 -- two cuts: the lower exponent is not below the other one
@@ -49,15 +51,29 @@ has_one_cut p q k some m n e f one two =
     let same : fs.0 ≡ es.0 = same_exponent p q ks.0 m es.0 n fs.0 some one' two' in
     (same_mantissa p q ks.0 m es.0 n fs.0 same one' two', omega (arith, ints, es.1, fs.1, ap pos same))
 
--- a number of sixteen digits or more, and how many it has beyond
-place : (fuel n : ℕ) → n < fuel → 10 ^ 15 ≤ n → (d : ℕ) × (10 ^ 15 * 10 ^ d ≤ n) × (n < 10 ^ 16 * 10 ^ d)
-place zero n h long = absurd (omega arith)
-place (suc fuel) n h long =
+-- the digits beyond sixteen
+beyond_low : (fuel n : ℕ) → n < fuel → 10 ^ 15 ≤ n → 10 ^ 15 * 10 ^ beyond fuel n ≤ n
+unfolding beyond
+beyond_low zero n h long = absurd (omega arith)
+beyond_low (suc fuel) n h long =
     elim (cases_lt n (10 ^ 16)) [
-      | inl small ↦ (0, omega arith, omega arith)
-      | inr big ↦
-          let (d, low, high) = place fuel (n / 10) (omega arith) (omega arith) in
-          (suc d, rw (pow-suc 10 d) (omega (arith, low)), rw (pow-suc 10 d) (omega (arith, high)))
+      inl small ↦ let test : nat_lt n (10 ^ 16) ≡ true = grind (arith, nat_tests) in rw test (omega arith)
+    | inr big ↦
+        let test : nat_lt n (10 ^ 16) ≡ false = grind (arith, nat_tests) in
+        let low = beyond_low fuel (n / 10) (omega arith) (omega arith) in
+        rw (test, pow-suc 10 (beyond fuel (n / 10))) (omega (arith, low))
+    ]
+
+beyond_high : (fuel n : ℕ) → n < fuel → n < 10 ^ 16 * 10 ^ beyond fuel n
+unfolding beyond
+beyond_high zero n h = absurd (omega arith)
+beyond_high (suc fuel) n h =
+    elim (cases_lt n (10 ^ 16)) [
+      inl small ↦ let test : nat_lt n (10 ^ 16) ≡ true = grind (arith, nat_tests) in rw test (omega arith)
+    | inr big ↦
+        let test : nat_lt n (10 ^ 16) ≡ false = grind (arith, nat_tests) in
+        let high = beyond_high fuel (n / 10) (omega arith) in
+        rw (test, pow-suc 10 (beyond fuel (n / 10))) (omega (arith, high))
     ]
 
 cut_whole : (n d : ℕ) → 10 ^ 15 * 10 ^ d ≤ n → n < 10 ^ 16 * 10 ^ d → Cuts n 1 0 (n / 10 ^ d) d
@@ -81,13 +97,14 @@ long_enough p q h =
     omega (arith, is, one_times, self_le q)
 
 pub each_has_cut : EachHasCut
+unfolding cut16
 each_has_cut p q k some divisible =
     let a : ℕ = 15 + q in
     let n : ℕ = p * 10 ^ a / q in
     let long : 10 ^ 15 ≤ n = le-div (10 ^ 15) (p * 10 ^ a) q divisible (long_enough p q some) in
-    let (d, low, high) = place (suc n) n (omega arith) long in
+    let d : ℕ = beyond (suc n) n in
     let cuts = cuts_of_floor p q n 0 a (n / 10 ^ d) d long
-    (omega (arith, div-mul-le_self (p * 10 ^ a) q))
-    (omega (arith, lt-div-mul-add {a = p * 10 ^ a} {b = q} divisible))
-    (cut_whole n d low high) in
-    (n / 10 ^ d, k +ℤ pos d -ℤ pos a, of_cuts p q k (n / 10 ^ d) (k +ℤ pos d -ℤ pos a) (pos a -ℤ k) a d (omega (arith, ints)) (omega (arith, ints)) cuts)
+      (omega (arith, div-mul-le_self (p * 10 ^ a) q))
+      (omega (arith, lt-div-mul-add {a = p * 10 ^ a} {b = q} divisible))
+      (cut_whole n d (beyond_low (suc n) n (omega arith) long) (beyond_high (suc n) n (omega arith))) in
+    of_cuts p q k (n / 10 ^ d) (k +ℤ pos d -ℤ pos a) (pos a -ℤ k) a d (omega (arith, ints)) (omega (arith, ints)) cuts

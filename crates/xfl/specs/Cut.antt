@@ -1,5 +1,5 @@
 -- Numbers cut toward zero to sixteen digits (this project's own). Numbers have no limit here.
-use Rattle.std.specs.Prelude.{ℕ, ◌≡◌, ◌+◌, ◌*◌, ◌^◌, ◌<◌, ◌≤◌, ℤ, ◌-ℤ◌}
+use Rattle.std.specs.Prelude.{zero, suc, ◌/◌, pos, ◌+ℤ◌, nat_lt, if◌then◌else◌, ◌==◌, Bool, ℕ, ◌≡◌, ◌+◌, ◌*◌, ◌^◌, ◌<◌, ◌≤◌, ℤ, ◌-ℤ◌}
 use Rattle.xfl.specs.Value.{tens}
 
 -- m * 10 ^ e is p / q * 10 ^ k, cut toward zero to sixteen digits:
@@ -14,11 +14,28 @@ pub record IsCut (p q : ℕ) (k : ℤ) (m : ℕ) (e : ℤ) : Type 0 where
 abbrev pub IsExact : ℕ → ℕ → ℤ → ℕ → ℤ → Type 0
 IsExact p q k m e = m * q * tens (e -ℤ k) ≡ p * tens (k -ℤ e)
 
--- a cut of each number above 0
-abbrev pub EachHasCut : Type 0
-EachHasCut = (p q : ℕ) (k : ℤ) → 0 < p → 0 < q → (m : ℕ) × (e : ℤ) × IsCut p q k m e
+-- the same, as a test
+abbrev pub is_exact : ℕ → ℕ → ℤ → ℕ → ℤ → Bool
+is_exact p q k m e = m * q * tens (e -ℤ k) == p * tens (k -ℤ e)
 
--- and no second one
+-- how many digits n has beyond sixteen; fuel is any number above n
+unfoldable pub beyond : ℕ → ℕ → ℕ
+beyond zero n = 0
+beyond (suc fuel) n = if nat_lt n (10 ^ 16) then 0 else suc (beyond fuel (n / 10))
+
+-- the cut of p / q * 10 ^ k, where p and q are above 0: the whole number of p / q * 10 ^ (15 + q) has sixteen digits
+-- or more, and those beyond are dropped. That it is the one m and e with `IsCut` is a law.
+unfoldable pub cut16 : ℕ → ℕ → ℤ → ℕ × ℤ
+cut16 p q k =
+    let n = p * 10 ^ (15 + q) / q in
+    let d = beyond (suc n) n in
+    (n / 10 ^ d, k +ℤ pos d -ℤ pos (15 + q))
+
+-- `cut16` is a cut of each number above 0
+abbrev pub EachHasCut : Type 0
+EachHasCut = (p q : ℕ) (k : ℤ) → 0 < p → 0 < q → IsCut p q k (cut16 p q k).0 (cut16 p q k).1
+
+-- and there is no second one
 abbrev pub HasOneCut : Type 0
 HasOneCut =
     (p q : ℕ) (k : ℤ) → 0 < q → (m n : ℕ) (e f : ℤ) → IsCut p q k m e → IsCut p q k n f → (m ≡ n) × (e ≡ f)

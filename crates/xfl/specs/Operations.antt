@@ -1,9 +1,9 @@
 -- What each operation on decimals answers: the exact result, cut, then the range rule (this project's own).
 use Rattle.std.specs.Prelude.{ℕ, ◌≡◌, ◌+◌, ◌-◌, ◌*◌, ◌/◌, ◌^◌, ◌<◌, ◌==◌, ◌&&◌, nat_lt, Bool, true, false, not, ℤ, pos, negsuc, neg_ℤ, ◌+ℤ◌, ◌-ℤ◌, unsigned_abs, int_lt, if◌then◌else◌, Result, Ok, Err}
 use Rattle.xfl.specs.declared.fault.XflFault.{XflFault}
-use Rattle.xfl.specs.declared.fault.XflFault.TheVariants.{Overflow, BadPlaces, Negative, TooBig}
+use Rattle.xfl.specs.declared.fault.XflFault.TheVariants.{DivisionByZero, Overflow, BadPlaces, Negative, TooBig}
 use Rattle.xfl.specs.Value.{Decimal, nought, scaled, tens}
-use Rattle.xfl.specs.Cut.{IsCut, IsExact}
+use Rattle.xfl.specs.Cut.{cut16, is_exact}
 
 -- an exact result, numerator / denominator * 10 ^ exponent, with a sign
 pub record Exact : Type 0 where
@@ -59,21 +59,34 @@ ranged negative m e =
     else (if int_lt (pos 80) e then Err Overflow else Ok (record { negative = negative; mantissa = m; exponent = e }))
 
 -- the answer for an exact result: cut toward zero, then the range rule
-pub record IsRounded (exact : Exact) (result : Result Decimal XflFault) : Type 0 where
-  pub nothing : exact.numerator ≡ 0 → result ≡ Ok nought
-  pub something : 0 < exact.numerator → (m : ℕ) × (e : ℤ) × IsCut exact.numerator exact.denominator exact.exponent m e × (result ≡ ranged exact.negative m e)
+abbrev pub rounded : Exact → Result Decimal XflFault
+rounded exact =
+    if exact.numerator == 0 then Ok nought
+    else (let (m, e) = cut16 exact.numerator exact.denominator exact.exponent in ranged exact.negative m e)
 
 -- the next greater number of sixteen digits after m * 10 ^ e, then the range rule
 abbrev pub next_ranged : Bool → ℕ → ℤ → Result Decimal XflFault
 next_ranged negative m e =
     if m + 1 == 10 ^ 16 then ranged negative (10 ^ 15) (e +ℤ pos 1) else ranged negative (m + 1) e
 
--- the answer for an exact result: itself where it has sixteen digits, else the next greater number that has, then the range rule
-pub record IsRoundedUp (exact : Exact) (result : Result Decimal XflFault) : Type 0 where
-  pub nothing : exact.numerator ≡ 0 → result ≡ Ok nought
-  pub something : 0 < exact.numerator → (m : ℕ) × (e : ℤ) × IsCut exact.numerator exact.denominator exact.exponent m e
-      × (IsExact exact.numerator exact.denominator exact.exponent m e → result ≡ ranged exact.negative m e)
-      × ((IsExact exact.numerator exact.denominator exact.exponent m e → ⊥) → result ≡ next_ranged exact.negative m e)
+-- the answer for an exact result: itself where it has sixteen digits, else the next greater number that has,
+-- then the range rule
+abbrev pub rounded_up : Exact → Result Decimal XflFault
+rounded_up exact =
+    if exact.numerator == 0 then Ok nought
+    else (let (m, e) = cut16 exact.numerator exact.denominator exact.exponent in
+    if is_exact exact.numerator exact.denominator exact.exponent m e then ranged exact.negative m e
+    else next_ranged exact.negative m e)
+
+-- x / y
+abbrev pub divided : Decimal → Decimal → Result Decimal XflFault
+divided x y = if y.mantissa == 0 then Err DivisionByZero else rounded (quotient x y)
+
+-- x * part / all, toward zero or away from it
+abbrev pub ratio_of : Decimal → Bool → ℕ → ℕ → Result Decimal XflFault
+ratio_of x up part all =
+    if all == 0 then Err DivisionByZero
+    else (if up then rounded_up (share x part all) else rounded (share x part all))
 
 -- the whole part of |x| * 10 ^ places
 abbrev pub whole_part : Decimal → ℕ → ℕ

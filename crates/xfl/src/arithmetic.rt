@@ -1,6 +1,7 @@
 ghost use Rattle.std.specs.Prelude.{◌≡◌, ◌+◌, ◌*◌, ◌/◌, ◌^◌, ◌<◌, ◌≤◌, ◌≤ℤ◌, ◌-ℤ◌, ◌+ℤ◌, pos, negsuc, IsTrue, IsFalse};
 ghost use Rattle.xfl.specs.Value.{one};
-ghost use Rattle.xfl.specs.Operations.{IsRounded, IsRoundedUp, whole, product, quotient, total, share, to_int_of, whole_part, fitted};
+ghost use Rattle.xfl.specs.Operations.{whole, product, total, rounded, divided, ratio_of, to_int_of, whole_part, fitted};
+ghost use Rattle.xfl.specs.Rounding.{IsRounded};
 
 use crate::fault::XflFault;
 use crate::rounding::{cut, rounded, rounded_quotient, rounded_up};
@@ -8,7 +9,7 @@ use crate::value::{ONE, Xfl, ZERO};
 
 /// mantissa * 10^exponent.
 pub fn set(exponent: i32, mantissa: i64) -> Result<Xfl, XflFault>
-    ensures { IsRounded (whole mantissa exponent) result }
+    ensures { result ≡ rounded (whole mantissa exponent) }
 {
     rounded(
         mantissa < 0,
@@ -20,7 +21,7 @@ pub fn set(exponent: i32, mantissa: i64) -> Result<Xfl, XflFault>
 /// drops * 10^-6.
 pub fn from_drops(drops: u64) -> Xfl
     requires { drops < 2 ^ 62 }
-    ensures { IsRounded (whole (pos drops) (negsuc 5)) (Ok result) }
+    ensures { Ok result ≡ rounded (whole (pos drops) (negsuc 5)) }
 {
     if drops == 0 {
         return ZERO;
@@ -35,7 +36,7 @@ pub fn from_drops(drops: u64) -> Xfl
 
 /// x * y.
 pub fn multiply(x: Xfl, y: Xfl) -> Result<Xfl, XflFault>
-    ensures { IsRounded (product x y) result }
+    ensures { result ≡ rounded (product x y) }
 {
     rounded(
         x.negative != y.negative,
@@ -46,8 +47,7 @@ pub fn multiply(x: Xfl, y: Xfl) -> Result<Xfl, XflFault>
 
 /// x / y.
 pub fn divide(x: Xfl, y: Xfl) -> Result<Xfl, XflFault>
-    ensures by_zero { y.mantissa ≡ 0 → result ≡ Err XflFault.DivisionByZero }
-    ensures value { 0 < y.mantissa → IsRounded (quotient x y) result }
+    ensures { result ≡ divided x y }
 {
     if y.mantissa == 0 {
         return Err(XflFault::DivisionByZero);
@@ -62,17 +62,14 @@ pub fn divide(x: Xfl, y: Xfl) -> Result<Xfl, XflFault>
 
 /// 1 / x.
 pub fn invert(x: Xfl) -> Result<Xfl, XflFault>
-    ensures by_zero { x.mantissa ≡ 0 → result ≡ Err XflFault.DivisionByZero }
-    ensures value { 0 < x.mantissa → IsRounded (quotient one x) result }
+    ensures { result ≡ divided one x }
 {
     divide(ONE, x)
 }
 
 /// x * num / den, toward zero, or with `up` away from it.
 pub fn mulratio(x: Xfl, up: bool, num: u32, den: u32) -> Result<Xfl, XflFault>
-    ensures by_zero { den ≡ 0 → result ≡ Err XflFault.DivisionByZero }
-    ensures down { 0 < den → IsFalse up → IsRounded (share x num den) result }
-    ensures up { 0 < den → IsTrue up → IsRoundedUp (share x num den) result }
+    ensures { result ≡ ratio_of x up num den }
 {
     if den == 0 {
         return Err(XflFault::DivisionByZero);
@@ -87,7 +84,7 @@ pub fn mulratio(x: Xfl, up: bool, num: u32, den: u32) -> Result<Xfl, XflFault>
 
 /// x + y.
 pub fn sum(x: Xfl, y: Xfl) -> Result<Xfl, XflFault>
-    ensures { IsRounded (total x y) result }
+    ensures { result ≡ rounded (total x y) }
 {
     match (x.mantissa, y.mantissa) {
         (0, _) => Ok(y),
@@ -166,13 +163,13 @@ fn whole_number(x: Xfl, places: u32) -> Result<i64, XflFault>
 {
     let shift = x.exponent + i64::from(places);
     if shift < 0 {
-        Ok(divided(x.mantissa, (-shift) as u32))
+        Ok(drop_digits(x.mantissa, (-shift) as u32))
     } else {
-        multiplied(x.mantissa, shift as u32)
+        add_digits(x.mantissa, shift as u32)
     }
 }
 
-fn divided(mantissa: u64, dropped: u32) -> i64
+fn drop_digits(mantissa: u64, dropped: u32) -> i64
     requires { mantissa < 10 ^ 16 }
     ensures { result ≡ pos (mantissa / 10 ^ dropped) }
 {
@@ -183,7 +180,7 @@ fn divided(mantissa: u64, dropped: u32) -> i64
     }
 }
 
-fn multiplied(mantissa: u64, added: u32) -> Result<i64, XflFault>
+fn add_digits(mantissa: u64, added: u32) -> Result<i64, XflFault>
     requires short { mantissa < 10 ^ 16 }
     requires some { 22 < added → 0 < mantissa }
     ensures { result ≡ fitted (mantissa * 10 ^ added) }

@@ -1,6 +1,6 @@
 use Rattle.std.proofs.Common.{arith, rules, sym, ◌<◌, ◌^◌, ◌*◌}
 use Rattle.xfl.proofs.Wholes.{all_added, few_added, ten_rises}
-use Rattle.xfl.proofs.arithmetic.multiplied.Goals as goal
+use Rattle.xfl.proofs.arithmetic.add_digits.Goals as goal
 
 pub returns-then-added-gt22 : goal.returns-then-added-gt22
 returns-then-added-gt22 c = sym (all_added c.args.mantissa c.args.added (c.requires.some c.if-added-gt22.true) c.if-added-gt22.true)

@@ -1,7 +1,7 @@
 use Rattle.std.proofs.Common.{arith, ap, sym, pos}
 use Rattle.xfl.proofs.Cuts.{ten_pos}
 use Rattle.xfl.proofs.Wholes.{all_dropped}
-use Rattle.xfl.proofs.arithmetic.divided.Goals as goal
+use Rattle.xfl.proofs.arithmetic.drop_digits.Goals as goal
 
 pub nonzero_div-result : goal.nonzero_div-result
 nonzero_div-result c = omega (arith, c.pow.ensures, ten_pos c.args.dropped)

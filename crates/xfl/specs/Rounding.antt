@@ -1,0 +1,19 @@
+-- The answer for an exact result as a relation, which the steps of the code show.
+use Rattle.std.specs.Prelude.{ℕ, ◌≡◌, ◌<◌, ℤ, Result, Ok}
+use Rattle.xfl.specs.declared.fault.XflFault.{XflFault}
+use Rattle.xfl.specs.Value.{Decimal, nought}
+use Rattle.xfl.specs.Cut.{IsCut, IsExact}
+use Rattle.xfl.specs.Operations.{Exact, ranged, next_ranged}
+
+-- some cut of the exact result gives the answer, by the range rule
+pub record IsRounded (exact : Exact) (result : Result Decimal XflFault) : Type 0 where
+  pub nothing : exact.numerator ≡ 0 → result ≡ Ok nought
+  pub something : 0 < exact.numerator → (m : ℕ) × (e : ℤ) × IsCut exact.numerator exact.denominator exact.exponent m e × (result ≡ ranged exact.negative m e)
+
+-- the answer is the exact result itself where it has sixteen digits, else the next greater number that has, then the range rule
+pub record IsRoundedUp (exact : Exact) (result : Result Decimal XflFault) : Type 0 where
+  pub nothing : exact.numerator ≡ 0 → result ≡ Ok nought
+  pub something : 0 < exact.numerator → (m : ℕ) × (e : ℤ) × IsCut exact.numerator exact.denominator exact.exponent m e
+      × (IsExact exact.numerator exact.denominator exact.exponent m e → result ≡ ranged exact.negative m e)
+      × ((IsExact exact.numerator exact.denominator exact.exponent m e → ⊥) → result ≡ next_ranged exact.negative m e)
+
