@@ -1,5 +1,5 @@
 -- The values of an XFL, the ledger's decimal number (this project's own, after the XFL of the XRPL Hooks).
-use Rattle.std.specs.Prelude.{ℕ, ◌≡◌, ◌+◌, ◌*◌, ◌^◌, ◌<◌, ◌≤◌, ◌⊎◌, ◌==◌, Bool, false, not, ℤ, pos, negsuc, neg_ℤ, ◌+ℤ◌, ◌≤ℤ◌, unsigned_abs, if◌then◌else◌}
+use Rattle.std.specs.Prelude.{ℕ, ◌≡◌, ◌+◌, ◌*◌, ◌^◌, ◌<◌, ◌≤◌, ◌⊎◌, ◌==◌, Bool, false, not, ℤ, pos, negsuc, neg_ℤ, ◌+ℤ◌, ◌-ℤ◌, ◌≤ℤ◌, ◌/◌, ◌%◌, unsigned_abs, if◌then◌else◌}
 use Rattle.xo_fields.specs.Decimal.{decimal_bits, IsDecimal}
 
 -- a decimal is mantissa * 10 ^ exponent, with a sign
@@ -53,6 +53,21 @@ bits_of x =
 -- the bits, as a signed number, are those of an XFL
 abbrev pub IsXflBits : ℤ → Type 0
 IsXflBits bits = (number : ℕ) × (bits ≡ pos number) × IsDecimal number
+
+-- the decimal of bits that are those of an XFL
+abbrev pub decimal_of : ℤ → Decimal
+decimal_of (pos bits) =
+    if bits == 0 then nought
+    else record { negative = bits / 2 ^ 62 == 0; mantissa = bits % 2 ^ 54; exponent = pos (bits / 2 ^ 54 % 256) -ℤ pos 97 }
+decimal_of (negsuc bits) = nought
+
+-- the bits of an XFL are an XFL's, and give it back
+abbrev pub BitsGiveBack : Type 0
+BitsGiveBack = (x : Decimal) → IsXfl x → IsXflBits (bits_of x) × (decimal_of (bits_of x) ≡ x)
+
+-- the decimal of an XFL's bits is an XFL, and gives them back
+abbrev pub DecimalGivesBack : Type 0
+DecimalGivesBack = (bits : ℤ) → IsXflBits bits → IsXfl (decimal_of bits) × (bits_of (decimal_of bits) ≡ bits)
 
 -- a whole number by which XFLs are ordered as their values are
 abbrev pub rank_of : Decimal → ℤ

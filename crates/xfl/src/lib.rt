@@ -10,7 +10,7 @@ mod value;
 
 pub use arithmetic::{divide, from_drops, invert, mulratio, multiply, set, sum, to_int};
 pub use fault::XflFault;
-pub use laws::one_cut;
+pub use laws::{one_cut, one_to_one};
 pub use value::Xfl;
 
 #[cfg(test)]

@@ -1,6 +1,6 @@
 ghost use Rattle.std.specs.Prelude.{◌≡◌, ◌^◌, ◌<◌, ◌≤◌, pos, IfSome, IfNone, if◌then◌else◌};
 ghost use Rattle.std.specs.Ordering.{int_cmp};
-ghost use Rattle.xfl.specs.Value.{nought, negated, scaled, bits_of, IsXfl, IsXflBits, rank_of};
+ghost use Rattle.xfl.specs.Value.{nought, negated, scaled, bits_of, decimal_of, IsXfl, IsXflBits, rank_of};
 ghost use Rattle.xo_fields.specs.Decimal.{decimal_bits, IsDecimal};
 
 use std::cmp::Ordering;
@@ -55,7 +55,7 @@ fn number_bits(positive: bool, biased: u64, mantissa: u64) -> u64
 fn number_from_bits(bits: u64) -> Option<Xfl>
     requires { 0 < bits }
     ensures none { IfNone result (IsDecimal bits → ⊥) }
-    ensures value { IfSome result (λ x. bits_of x ≡ pos bits) }
+    ensures value { IfSome result (λ x. x ≡ decimal_of (pos bits)) }
 {
     let mantissa = bits % (1 << 54);
     let biased = bits / (1 << 54) % 256;
@@ -77,7 +77,7 @@ impl Xfl {
     /// exponent + 97 and 54 bits of mantissa follow.
     pub fn from_bits(bits: i64) -> Option<Xfl>
         ensures none { IfNone result (IsXflBits bits → ⊥) }
-        ensures value { IfSome result (λ x. bits_of x ≡ bits) }
+        ensures value { IfSome result (λ x. x ≡ decimal_of bits) }
     {
         let bits = u64::try_from(bits).ok()?;
         if bits == 0 {
