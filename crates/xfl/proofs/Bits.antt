@@ -1,10 +1,10 @@
 -- Decimals and their bits are one to one.
-use Rattle.std.proofs.Common.{◌≡◌, ℕ, zero, suc, ◌+◌, ◌-◌, ◌*◌, ◌/◌, ◌%◌, ◌^◌, ◌<◌, ◌≤◌, ◌≤ℤ◌, refl, sym, ap, subst, ◌∙◌, arith, inl, inr, Bool, true, false, ℤ, pos, negsuc, ◌+ℤ◌, ◌-ℤ◌, unsigned_abs, eqb, if◌then◌else◌}
+use Rattle.std.proofs.Common.{◌≡◌, ℕ, ◌+◌, ◌-◌, ◌/◌, ◌%◌, ◌^◌, ◌<◌, ◌≤◌, refl, sym, ap, subst, ◌∙◌, arith, inl, inr, Bool, true, false, ℤ, pos, ◌+ℤ◌, ◌-ℤ◌, unsigned_abs, eqb, if◌then◌else◌}
 use Rattle.std.proofs.lemmas.Bool.{cases_eq}
 use Rattle.std.proofs.lemmas.Bool.Decides.{nat_tests}
 use Rattle.std.proofs.lemmas.Int.{ints}
-use Rattle.xo_fields.specs.Decimal.{decimal_bits, IsDecimal, IsDecimalOf}
-use Rattle.xfl.specs.Value.{Decimal, nought, IsXfl, IsNumber, IsXflBits, bits_of, decimal_of, BitsGiveBack, DecimalGivesBack}
+use Rattle.xo_fields.specs.Decimal.{decimal_bits, IsDecimal}
+use Rattle.xfl.specs.Value.{Decimal, IsXfl, IsNumber, IsXflBits, bits_of, decimal_of, BitsGiveBack, DecimalGivesBack}
 use Rattle.xfl.proofs.Sums.{place_of}
 
 -- the sign's bit
@@ -47,10 +47,14 @@ bits_give_back x (inl h) = subst (λ t. IsXflBits (bits_of t) × (decimal_of (bi
 bits_give_back x (inr h) =
     let (b, is) = place_of x.exponent h.least in
     let top : b ≤ 176 = omega (arith, ints) in
-    let spelled = number_bits x b h is in
-    ((decimal_bits (positive x.negative) (b + 1) x.mantissa, spelled,
-      inr (positive x.negative, b + 1, x.mantissa, record { sign = sign x.negative; exponent_low = omega arith; exponent_high = omega arith; mantissa_low = h.low; mantissa_high = h.high; is = refl })),
-     ap decimal_of spelled ∙ back x.negative x.mantissa b x.exponent h.low h.high top is)
+    let spelled = number_bits x b h is in (
+      (
+        decimal_bits (positive x.negative) (b + 1) x.mantissa,
+        spelled,
+        inr (positive x.negative, b + 1, x.mantissa, record { sign = sign x.negative; exponent_low = omega arith; exponent_high = omega arith; mantissa_low = h.low; mantissa_high = h.high; is = refl }),
+      ),
+      ap decimal_of spelled ∙ back x.negative x.mantissa b x.exponent h.low h.high top is,
+    )
 
 there : (n : Bool) (b m : ℕ) → b ≤ 176 → 10 ^ 15 ≤ m → m < 10 ^ 16 → IsXfl (decimal_of (pos (decimal_bits (positive n) (b + 1) m))) × (bits_of (decimal_of (pos (decimal_bits (positive n) (b + 1) m))) ≡ pos (decimal_bits (positive n) (b + 1) m))
 there n b m top low high =
@@ -58,7 +62,7 @@ there n b m top low high =
     let is : x.exponent +ℤ pos 96 ≡ pos b = omega (arith, ints) in
     let valid : IsNumber x = record { low = low; high = high; least = omega (arith, ints); greatest = omega (arith, ints) } in
     subst (λ t. IsXfl t × (bits_of t ≡ pos (decimal_bits (positive n) (b + 1) m))) (sym (back n m b x.exponent low high top is))
-      (inr valid, number_bits x b valid is)
+    (inr valid, number_bits x b valid is)
 
 sign_of : (p : ℕ) → p < 2 → (n : Bool) × (p ≡ positive n)
 sign_of p h = elim (cases_eq p 0) [ inl z ↦ (true, z) | inr z ↦ (false, omega arith) ]

@@ -6,7 +6,7 @@ use Rattle.std.proofs.lemmas.Bool.{cases_lt}
 use Rattle.std.proofs.lemmas.Bool.Decides.{nat_tests}
 use Rattle.std.proofs.lemmas.Nat.{pow-add, le-div, div_below}
 use Rattle.std.proofs.lemmas.Int.{ints}
-use Rattle.xfl.specs.Cut.{IsCut, EachHasCut, HasOneCut, beyond, cut16}
+use Rattle.xfl.specs.Cut.{EachHasCut, HasOneCut, beyond, cut16}
 use Rattle.xfl.proofs.Cuts.{Cuts, ten_pos, ten_le, at_least_zero, to_cuts, of_cuts, cuts_of_floor}
 
 -- two cuts: the lower exponent is not below the other one
@@ -57,11 +57,11 @@ unfolding beyond
 beyond_low zero n h long = absurd (omega arith)
 beyond_low (suc fuel) n h long =
     elim (cases_lt n (10 ^ 16)) [
-      inl small ↦ let test : nat_lt n (10 ^ 16) ≡ true = grind (arith, nat_tests) in rw test (omega arith)
-    | inr big ↦
-        let test : nat_lt n (10 ^ 16) ≡ false = grind (arith, nat_tests) in
-        let low = beyond_low fuel (n / 10) (omega arith) (omega arith) in
-        rw (test, pow-suc 10 (beyond fuel (n / 10))) (omega (arith, low))
+      | inl small ↦ let test : nat_lt n (10 ^ 16) ≡ true = grind (arith, nat_tests) in rw test (omega arith)
+      | inr big ↦
+          let test : nat_lt n (10 ^ 16) ≡ false = grind (arith, nat_tests) in
+          let low = beyond_low fuel (n / 10) (omega arith) (omega arith) in
+          rw (test, pow-suc 10 (beyond fuel (n / 10))) (omega (arith, low))
     ]
 
 beyond_high : (fuel n : ℕ) → n < fuel → n < 10 ^ 16 * 10 ^ beyond fuel n
@@ -69,11 +69,11 @@ unfolding beyond
 beyond_high zero n h = absurd (omega arith)
 beyond_high (suc fuel) n h =
     elim (cases_lt n (10 ^ 16)) [
-      inl small ↦ let test : nat_lt n (10 ^ 16) ≡ true = grind (arith, nat_tests) in rw test (omega arith)
-    | inr big ↦
-        let test : nat_lt n (10 ^ 16) ≡ false = grind (arith, nat_tests) in
-        let high = beyond_high fuel (n / 10) (omega arith) in
-        rw (test, pow-suc 10 (beyond fuel (n / 10))) (omega (arith, high))
+      | inl small ↦ let test : nat_lt n (10 ^ 16) ≡ true = grind (arith, nat_tests) in rw test (omega arith)
+      | inr big ↦
+          let test : nat_lt n (10 ^ 16) ≡ false = grind (arith, nat_tests) in
+          let high = beyond_high fuel (n / 10) (omega arith) in
+          rw (test, pow-suc 10 (beyond fuel (n / 10))) (omega (arith, high))
     ]
 
 cut_whole : (n d : ℕ) → 10 ^ 15 * 10 ^ d ≤ n → n < 10 ^ 16 * 10 ^ d → Cuts n 1 0 (n / 10 ^ d) d
@@ -104,7 +104,7 @@ each_has_cut p q k some divisible =
     let long : 10 ^ 15 ≤ n = le-div (10 ^ 15) (p * 10 ^ a) q divisible (long_enough p q some) in
     let d : ℕ = beyond (suc n) n in
     let cuts = cuts_of_floor p q n 0 a (n / 10 ^ d) d long
-      (omega (arith, div-mul-le_self (p * 10 ^ a) q))
-      (omega (arith, lt-div-mul-add {a = p * 10 ^ a} {b = q} divisible))
-      (cut_whole n d (beyond_low (suc n) n (omega arith) long) (beyond_high (suc n) n (omega arith))) in
+    (omega (arith, div-mul-le_self (p * 10 ^ a) q))
+    (omega (arith, lt-div-mul-add {a = p * 10 ^ a} {b = q} divisible))
+    (cut_whole n d (beyond_low (suc n) n (omega arith) long) (beyond_high (suc n) n (omega arith))) in
     of_cuts p q k (n / 10 ^ d) (k +ℤ pos d -ℤ pos a) (pos a -ℤ k) a d (omega (arith, ints)) (omega (arith, ints)) cuts

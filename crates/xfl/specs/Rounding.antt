@@ -16,4 +16,3 @@ pub record IsRoundedUp (exact : Exact) (result : Result Decimal XflFault) : Type
   pub something : 0 < exact.numerator → (m : ℕ) × (e : ℤ) × IsCut exact.numerator exact.denominator exact.exponent m e
       × (IsExact exact.numerator exact.denominator exact.exponent m e → result ≡ ranged exact.negative m e)
       × ((IsExact exact.numerator exact.denominator exact.exponent m e → ⊥) → result ≡ next_ranged exact.negative m e)
-

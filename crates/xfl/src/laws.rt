@@ -5,12 +5,10 @@ ghost use Rattle.xfl.specs.Value.{BitsGiveBack, DecimalGivesBack};
 pub fn one_cut()
     ensures some { EachHasCut }
     ensures only { HasOneCut }
-{
-}
+{}
 
 /// Decimals and their bits are one to one. A law alone: the call does nothing.
 pub fn one_to_one()
     ensures bits { BitsGiveBack }
     ensures decimals { DecimalGivesBack }
-{
-}
+{}
