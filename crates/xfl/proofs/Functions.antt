@@ -6,7 +6,7 @@ use Rattle.xfl.specs.declared.fault.XflFault.{XflFault}
 use Rattle.xfl.specs.Value.{Decimal, nought, tens}
 use Rattle.xfl.specs.Cut.{IsExact, cut16, is_exact}
 use Rattle.xfl.specs.Operations.{Exact, ranged, next_ranged, rounded, rounded_up, quotient, divided, share, ratio_of}
-use Rattle.xfl.specs.Rounding.{IsRounded, IsRoundedUp}
+use Rattle.xfl.specs.Steps.{IsRounded, IsRoundedUp}
 use Rattle.xfl.proofs.OneCut.{each_has_cut, has_one_cut}
 
 rounded_nothing : (x : Exact) → x.numerator ≡ 0 → rounded x ≡ Ok nought

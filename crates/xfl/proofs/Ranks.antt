@@ -9,7 +9,8 @@ use Rattle.std.specs.Ordering.{int_cmp, MatchOrdering}
 use Rattle.std.proofs.Common.{Less, Equal, Greater}
 use Rattle.std.specs.declared.cmp.Ordering.{Ordering}
 use Rattle.std.specs.Cmp.{int_ranks, int_cmp_is}
-use Rattle.xfl.specs.Value.{Decimal, IsXfl, IsNumber, signed, scaled, rank_of}
+use Rattle.xfl.specs.Value.{Decimal, IsXfl, IsNumber, signed, scaled}
+use Rattle.xfl.specs.Steps.{rank_of}
 use Rattle.xfl.proofs.Cuts.{ten_pos}
 use Rattle.xfl.proofs.Sums.{place_of, scaled_is}
 

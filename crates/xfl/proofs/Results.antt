@@ -8,7 +8,7 @@ use Rattle.std.specs.Bool.{beq}
 use Rattle.xfl.specs.Value.{Decimal, IsXfl, tens}
 use Rattle.xfl.specs.Cut.{IsCut, IsExact}
 use Rattle.xfl.specs.Operations.{differ, ranged, next_ranged}
-use Rattle.xfl.specs.Rounding.{IsRounded, IsRoundedUp}
+use Rattle.xfl.specs.Steps.{IsRounded, IsRoundedUp}
 use Rattle.xfl.proofs.Cuts.{ten_pos, floor_cut, floor_exact, of_floor_exact, moved, moved_exact, scaled_cut, scaled_exact}
 
 -- the digits of a whole number whose first one is at a place up to the fifteenth

@@ -10,7 +10,7 @@ use Rattle.xfl.specs.declared.fault.XflFault.{XflFault}
 use Rattle.xfl.specs.Value.{Decimal, nought, IsXfl, IsNumber, signed, scaled, tens}
 use Rattle.xfl.specs.Cut.{IsCut}
 use Rattle.xfl.specs.Operations.{whole, total, ranged}
-use Rattle.xfl.specs.Rounding.{IsRounded}
+use Rattle.xfl.specs.Steps.{IsRounded}
 use Rattle.xfl.proofs.Cuts.{ten_pos, raised_cut, whole_floor_cut, whole_cut}
 
 sub_times : (a b c : ℕ) → (a - b) * c ≡ a * c - b * c

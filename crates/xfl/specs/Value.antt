@@ -1,5 +1,5 @@
 -- The values of an XFL, the ledger's decimal number (this project's own, after the XFL of the XRPL Hooks).
-use Rattle.std.specs.Prelude.{ℕ, ◌≡◌, ◌+◌, ◌*◌, ◌^◌, ◌<◌, ◌≤◌, ◌⊎◌, ◌==◌, Bool, false, not, ℤ, pos, negsuc, neg_ℤ, ◌+ℤ◌, ◌-ℤ◌, ◌≤ℤ◌, ◌/◌, ◌%◌, unsigned_abs, if◌then◌else◌}
+use Rattle.std.specs.Prelude.{ℕ, ◌≡◌, ◌*◌, ◌^◌, ◌<◌, ◌≤◌, ◌⊎◌, ◌==◌, Bool, false, not, ℤ, pos, negsuc, neg_ℤ, ◌+ℤ◌, ◌-ℤ◌, ◌≤ℤ◌, ◌/◌, ◌%◌, unsigned_abs, if◌then◌else◌}
 use Rattle.xo_fields.specs.Decimal.{decimal_bits, IsDecimal}
 
 -- a decimal is mantissa * 10 ^ exponent, with a sign
@@ -68,9 +68,3 @@ BitsGiveBack = (x : Decimal) → IsXfl x → IsXflBits (bits_of x) × (decimal_o
 -- the decimal of an XFL's bits is an XFL, and gives them back
 abbrev pub DecimalGivesBack : Type 0
 DecimalGivesBack = (bits : ℤ) → IsXflBits bits → IsXfl (decimal_of bits) × (bits_of (decimal_of bits) ≡ bits)
-
--- a whole number by which XFLs are ordered as their values are
-abbrev pub rank_of : Decimal → ℤ
-rank_of x =
-    if x.mantissa == 0 then pos 0
-    else signed x.negative (unsigned_abs (x.exponent +ℤ pos 97) * 10 ^ 16 + x.mantissa)

@@ -1,7 +1,7 @@
 ghost use Rattle.std.specs.Prelude.{◌≡◌, ◌+◌, ◌*◌, ◌^◌, ◌<◌, ◌≤◌, ◌≤ℤ◌, ◌↔◌, ◌⊎◌, pos, negsuc, IsTrue, IsFalse};
 ghost use Rattle.xfl.specs.Cut.{IsCut, IsExact};
 ghost use Rattle.xfl.specs.Operations.{ranged, next_ranged};
-ghost use Rattle.xfl.specs.Rounding.{IsRounded, IsRoundedUp};
+ghost use Rattle.xfl.specs.Steps.{IsRounded, IsRoundedUp};
 
 use crate::fault::XflFault;
 use crate::value::{Xfl, ZERO};

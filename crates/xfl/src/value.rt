@@ -1,6 +1,7 @@
 ghost use Rattle.std.specs.Prelude.{◌≡◌, ◌^◌, ◌<◌, ◌≤◌, pos, IfSome, IfNone, if◌then◌else◌};
 ghost use Rattle.std.specs.Ordering.{int_cmp};
-ghost use Rattle.xfl.specs.Value.{nought, negated, scaled, bits_of, decimal_of, IsXfl, IsXflBits, rank_of};
+ghost use Rattle.xfl.specs.Value.{nought, negated, scaled, bits_of, decimal_of, IsXfl, IsXflBits};
+ghost use Rattle.xfl.specs.Steps.{rank_of};
 ghost use Rattle.xo_fields.specs.Decimal.{decimal_bits, IsDecimal};
 
 use std::cmp::Ordering;
@@ -55,6 +56,8 @@ fn number_bits(positive: bool, biased: u64, mantissa: u64) -> u64
 fn number_from_bits(bits: u64) -> Option<Xfl>
     requires { 0 < bits }
     ensures none { IfNone result (IsDecimal bits → ⊥) }
+    ensures some { IfSome result (λ x. bits_of x ≡ pos bits) }
+    ensures valid { IfSome result (λ x. IsXfl x) }
     ensures value { IfSome result (λ x. x ≡ decimal_of (pos bits)) }
 {
     let mantissa = bits % (1 << 54);
@@ -77,6 +80,8 @@ impl Xfl {
     /// exponent + 97 and 54 bits of mantissa follow.
     pub fn from_bits(bits: i64) -> Option<Xfl>
         ensures none { IfNone result (IsXflBits bits → ⊥) }
+        ensures some { IfSome result (λ x. bits_of x ≡ bits) }
+        ensures valid { IfSome result (λ x. IsXfl x) }
         ensures value { IfSome result (λ x. x ≡ decimal_of bits) }
     {
         let bits = u64::try_from(bits).ok()?;

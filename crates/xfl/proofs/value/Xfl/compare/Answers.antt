@@ -1,6 +1,6 @@
 use Rattle.std.proofs.Common.{rules, ◌≡◌, ◌∙◌, to_z, of_z, w64}
 use Rattle.std.proofs.lemmas.Int.{to_z-of_z}
-use Rattle.xfl.specs.Value.{rank_of}
+use Rattle.xfl.specs.Steps.{rank_of}
 use Rattle.xfl.proofs.Ranks.{rank_order}
 use Rattle.xfl.proofs.value.Xfl.compare.Goals as goal
 
