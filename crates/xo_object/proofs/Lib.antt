@@ -1,0 +1,5 @@
+pub mod Parts
+pub mod Leads
+pub mod NoWant
+pub mod OneWay
+pub mod ListLemmas

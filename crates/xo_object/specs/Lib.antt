@@ -1,0 +1,6 @@
+pub mod Item
+pub mod Value
+pub mod Fault
+pub mod Span
+pub mod List
+pub mod Laws

@@ -1,0 +1,14 @@
+//! Objects of the ledger's binary format: their fields, faults and spellings.
+#![tactic(auto)]
+
+mod check;
+mod fault;
+mod laws;
+mod skip;
+mod span;
+
+pub use check::check_object;
+pub use fault::ObjectFault;
+pub use laws::{edits, more_room, one_array, one_field, one_reading, one_spelling};
+pub use skip::{Place, Skipped, skip_fields, skip_value};
+pub use span::Span;
