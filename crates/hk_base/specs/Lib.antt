@@ -1,0 +1,5 @@
+pub mod Hashes
+pub mod Hexadecimal
+pub mod Outside
+pub mod Memory
+pub mod Standard

@@ -1,0 +1,5 @@
+use Rattle.wa_exec.proofs.OneEnding.{one_ending}
+use Rattle.wa_exec.proofs.laws.one_ending.Goals as goal
+
+pub returns : goal.returns
+returns c = record { law = one_ending }

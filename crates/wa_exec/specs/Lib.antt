@@ -1,0 +1,9 @@
+pub mod Typing
+pub mod Machine
+pub mod Bound
+pub mod Bytes
+pub mod Few
+pub mod Room
+pub mod Closed
+pub mod Taken
+pub mod Turns
