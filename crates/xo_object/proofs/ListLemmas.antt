@@ -79,7 +79,7 @@ with_fits fits x last (y ∷ ys) f (g, h) = first (λ later. with_fits fits x (n
         ListFits fits false last (if less then x ∷ y ∷ ys else if nat_lt (number y.field) (number x.field) then y ∷ with_item x ys else x ∷ ys)
     first rest true e =
       let lt : number x.field < number y.field = grind (arith, nat_tests) in
-      (f, record { form = g.form; is = g.is; known = g.known; allowed = lt; value = g.value }, h)
+      (f, (record { form = g.form; is = g.is; known = g.known; allowed = lt; value = g.value }, h))
     first rest false e = second rest (nat_lt (number y.field) (number x.field)) refl (grind (arith, nat_tests))
 
 pub edits_fit : Edits
