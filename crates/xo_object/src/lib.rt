@@ -6,9 +6,11 @@ mod fault;
 mod laws;
 mod skip;
 mod span;
+mod transaction;
 
 pub use check::check_object;
 pub use fault::ObjectFault;
 pub use laws::{edits, more_room, one_array, one_field, one_reading, one_spelling};
 pub use skip::{Place, Skipped, skip_fields, skip_value};
 pub use span::Span;
+pub use transaction::{Grant, HookItem, Parameter, Transaction, copy_parameters};
