@@ -1,4 +1,4 @@
-ghost use Rattle.std.specs.Prelude.{◌≡◌, IfNone, IfSome};
+ghost use Rattle.std.specs.Prelude.{◌≡◌, ◌<◌, IfNone, IfSome};
 ghost use Rattle.xo_fields.specs.declared.field.FieldId.{FieldId};
 ghost use Rattle.xo_fields.specs.Field.{number, IsNumbered};
 
@@ -13,6 +13,7 @@ impl FieldId {
     /// The number by which hooks name the field: 65,536 times the kind, and the code.
     pub fn number(self) -> u32
         ensures number { result ≡ number self }
+        ensures bytes { (self.kind < 256) × (self.code < 256) }
     {
         u32::from(self.kind) * 65_536 + u32::from(self.code)
     }

@@ -3,3 +3,5 @@ pub mod Leads
 pub mod NoWant
 pub mod OneWay
 pub mod ListLemmas
+pub mod Collect
+pub mod Walk

@@ -4,3 +4,4 @@ pub mod Fault
 pub mod Span
 pub mod List
 pub mod Laws
+pub mod Located

@@ -3,14 +3,18 @@
 
 mod check;
 mod fault;
+mod find;
 mod laws;
+mod object;
 mod skip;
 mod span;
 mod transaction;
 
 pub use check::check_object;
 pub use fault::ObjectFault;
+pub use find::{Located, Passed, count_elements, element, find_field, locate, skip_elements};
 pub use laws::{edits, more_room, one_array, one_field, one_reading, one_spelling};
+pub use object::{Object, read_object};
 pub use skip::{Place, Skipped, skip_fields, skip_value};
 pub use span::Span;
 pub use transaction::{Grant, HookItem, Parameter, Transaction, copy_parameters};
