@@ -5,3 +5,4 @@ pub mod OneWay
 pub mod ListLemmas
 pub mod Collect
 pub mod Walk
+pub mod Building

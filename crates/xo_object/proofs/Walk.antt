@@ -273,7 +273,7 @@ element_found one bytes elements index passed f form tail value next p enough mo
     (place.0, there, (x, ap (λ xs. slice_get xs index) (b.whole ∙ ap (λ xs. b.before ++ xs) n.1) ∙ ap (λ i. slice_get (b.before ++ x ∷ n.0) i) at_index ∙ nth b.before x n.0, place.1))
 
 -- what is located is what lookup finds
-lookup_below : (f : FieldId) (a b : List Item) → AllBelow (number f) a → lookup f (a ++ b) ≡ lookup f b
+pub lookup_below : (f : FieldId) (a b : List Item) → AllBelow (number f) a → lookup f (a ++ b) ≡ lookup f b
 lookup_below f [] b h = refl
 lookup_below f (x ∷ xs) b h = other (is_same x.field f) refl ∙ lookup_below f xs b h.1
   where
@@ -281,7 +281,7 @@ lookup_below f (x ∷ xs) b h = other (is_same x.field f) refl ∙ lookup_below 
     other true e = absurd (grind (arith, nat_tests, h.0))
     other false e = refl
 
-lookup_above : (f : FieldId) (b : List Item) → AllAbove (number f) b → lookup f b ≡ None
+pub lookup_above : (f : FieldId) (b : List Item) → AllAbove (number f) b → lookup f b ≡ None
 lookup_above f [] h = refl
 lookup_above f (x ∷ xs) h = other (is_same x.field f) refl ∙ lookup_above f xs h.1
   where

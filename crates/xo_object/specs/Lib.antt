@@ -5,3 +5,4 @@ pub mod Span
 pub mod List
 pub mod Laws
 pub mod Located
+pub mod Builder

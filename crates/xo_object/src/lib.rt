@@ -1,6 +1,7 @@
 //! Objects of the ledger's binary format: their fields, faults and spellings.
 #![tactic(auto)]
 
+mod builder;
 mod check;
 mod fault;
 mod find;
@@ -10,6 +11,7 @@ mod skip;
 mod span;
 mod transaction;
 
+pub use builder::{ObjectBuilder, PutFault};
 pub use check::check_object;
 pub use fault::ObjectFault;
 pub use find::{Located, Passed, count_elements, element, find_field, locate, skip_elements};
