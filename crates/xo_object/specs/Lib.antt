@@ -6,3 +6,6 @@ pub mod List
 pub mod Laws
 pub mod Located
 pub mod Builder
+pub mod Collected
+pub mod Names
+pub mod Transaction

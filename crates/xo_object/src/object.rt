@@ -1,12 +1,15 @@
 ghost use Rattle.std.specs.Prelude.{◌≡◌, Some, None, IfOk, IfErr, IfSome, IfNone, All};
 ghost use Rattle.xo_object.specs.declared.fault.ObjectFault.{ObjectFault};
 ghost use Rattle.xo_object.specs.Item.{lookup};
-ghost use Rattle.xo_object.specs.Fault.{IsFault};
+ghost use Rattle.xo_object.specs.Fault.{IsFault, Reads, fails};
 ghost use Rattle.xo_object.specs.Span.{items, items_of, InRange, IsRead};
+ghost use Rattle.xo_object.specs.Collected.{Collects};
+ghost use Rattle.xo_object.specs.Value.{IsArray, HasElements};
 
 use crate::check::DEPTH;
 use crate::fault::ObjectFault;
-use crate::skip::{skip_value, start_of};
+use crate::laws::one_reading;
+use crate::skip::{Place, end_of, holds_elements, skip_value, start_of};
 use crate::span::Span;
 use std::alloc::Global;
 use std::marker::Model;
@@ -77,7 +80,7 @@ pub fn read_object(alloc: Global, bytes: &[u8]) -> Result<Object, ObjectFault>
     ensures read { IfOk result (λ object. IsRead object.bytes object.spans) }
     ensures fault { IfErr result (λ fault. (fault ≡ ObjectFault.NoMemory → ⊥) → IsFault bytes.now fault) }
 {
-    match read_spans(alloc, bytes) {
+    match collect(alloc, bytes, Place::Fields, DEPTH) {
         Err(fault) => Err(fault),
         Ok(spans) => match Vec::from_slice(alloc, bytes) {
             Err(_) => Err(ObjectFault::NoMemory),
@@ -86,18 +89,22 @@ pub fn read_object(alloc: Global, bytes: &[u8]) -> Result<Object, ObjectFault>
     }
 }
 
-/// The spans of an object's fields.
-fn read_spans(alloc: Global, bytes: &[u8]) -> Result<Vec<(FieldId, Span)>, ObjectFault>
-    ensures ok { IfOk result (λ spans. IsRead bytes.now spans.items) }
-    ensures fault { IfErr result (λ fault. (fault ≡ ObjectFault.NoMemory → ⊥) → IsFault bytes.now fault) }
+/// The spans of the fields or elements that stand there, up to their end.
+pub fn collect(alloc: Global, bytes: &[u8], place: Place, room: u8) -> Result<Vec<(FieldId, Span)>, ObjectFault>
+    ensures ok { IfOk result (λ spans. Collects room place bytes.now spans.items) }
+    ensures fault { IfErr result (λ fault. (fault ≡ ObjectFault.NoMemory → ⊥) → Reads room place 0 bytes.now (fails fault)) }
 {
+    let array = holds_elements(place);
     let mut spans = Vec::new(alloc);
     let mut at = 0;
     let mut last = 0;
-    'fields: while at < bytes.len() {
-        match start_of(bytes, at, false, last) {
+    'fields: loop {
+        if let Some(_) = end_of(bytes, at, place) {
+            return Ok(spans);
+        }
+        match start_of(bytes, at, array, last) {
             Err(fault) => return Err(fault),
-            Ok(start) => match skip_value(bytes, start.from, start.form, DEPTH) {
+            Ok(start) => match skip_value(bytes, start.from, start.form, room) {
                 Err(fault) => return Err(fault),
                 Ok(value) => {
                     let span = Span {
@@ -113,5 +120,17 @@ fn read_spans(alloc: Global, bytes: &[u8]) -> Result<Vec<(FieldId, Span)>, Objec
             },
         }
     }
-    Ok(spans)
+}
+
+/// The elements of an array's bytes, each with the span of its value.
+pub fn read_elements(alloc: Global, bytes: &[u8]) -> Result<Vec<(FieldId, Span)>, ObjectFault>
+    ensures ok { IfOk result (λ spans. IsArray (items_of bytes.now spans.items) bytes.now) }
+    ensures ranges { IfOk result (λ spans. All (InRange bytes.now) spans.items) }
+    ensures fault { IfErr result (λ fault. (fault ≡ ObjectFault.NoMemory → ⊥) → HasElements bytes.now → ⊥) }
+{
+    one_reading();
+    match collect(alloc, bytes, Place::Elements, DEPTH - 1) {
+        Err(fault) => Err(fault),
+        Ok(spans) => Ok(spans),
+    }
 }
