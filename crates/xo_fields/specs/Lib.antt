@@ -1,2 +1,10 @@
+pub mod Spelling
 pub mod Field
+pub mod Form
+pub mod Header
+pub mod Length
 pub mod Decimal
+pub mod Amount
+pub mod Name
+pub mod Table
+pub mod Laws

@@ -1,0 +1,70 @@
+-- Values of an object's fields fit their kinds.
+use Rattle.std.proofs.Common.{◌≡◌, ℕ, Bool, true, false, List, [], ◌∷◌, ◌++◌, refl, sym, ap, subst, ◌∙◌, arith, append-nil, drop, Option, Some, None, if◌then◌else◌, ◌&&◌, ◌==◌}
+use Rattle.std.proofs.lemmas.Bool.Decides.{nat_tests}
+use Rattle.xo_fields.specs.declared.field.FieldId.{FieldId}
+use Rattle.xo_fields.specs.declared.form.Form.{Form}
+use Rattle.xo_fields.specs.declared.amount.Amount.{Amount}
+use Rattle.xo_fields.specs.declared.amount.AmountRead.TheVariants as amounts
+use Rattle.xo_fields.specs.Amount.{IsAmount, AmountGives, IsValid, amount_bytes}
+use Rattle.xo_fields.specs.Field.{number}
+use Rattle.xo_fields.specs.Laws.{OneAmount}
+use Rattle.xo_fields.specs.Spelling.{Begins}
+use Rattle.xo_object.specs.Transaction.{IsAmountOf}
+use Rattle.std.proofs.lemmas.List.{take-append-drop}
+use Rattle.xo_fields.specs.Form.{form_at}
+use Rattle.xo_object.specs.declared.fault.ObjectFault.{ObjectFault}
+use Rattle.xo_object.specs.declared.skip.Place.TheVariants.{Fields}
+use Rattle.xo_object.specs.Item.{Item, lookup, is_same}
+use Rattle.xo_object.specs.Fault.{ends, fails, IsFault}
+use Rattle.xo_object.specs.Laws.{OneReading}
+use Rattle.xo_object.specs.List.{ListFits}
+use Rattle.xo_object.specs.Value.{IsValue, IsObject, HasFields}
+use Rattle.xo_object.proofs.ListLemmas.{listed}
+use Rattle.xo_object.proofs.Parts.{asks_less}
+
+some_same : (form other : Form) → Some form ≡ Some other → form ≡ other
+some_same form other e = cc
+
+value_same : (v w : List ℕ) → Some v ≡ Some w → v ≡ w
+value_same v w e = cc
+
+kind_same : (f g : FieldId) → is_same f g ≡ true → f.kind ≡ g.kind
+kind_same f g e = grind (arith, nat_tests)
+
+value_fits : (last : ℕ) (fields : List Item) (f : FieldId) (form : Form) (v : List ℕ) → ListFits (IsValue 10) false last fields → form_at f.kind ≡ Some form → lookup f fields ≡ Some v → IsValue 10 form v
+value_fits last [] f form v h k e = absurd (cc)
+value_fits last (x ∷ xs) f form v (g, h) k e = ways (is_same x.field f) refl e (λ later. value_fits (number x.field) xs f form v h k later)
+  where
+    ways : (same : Bool) → is_same x.field f ≡ same → (if same then Some x.value else lookup f xs) ≡ Some v → (lookup f xs ≡ Some v → IsValue 10 form v) → IsValue 10 form v
+    ways true s found later =
+      let kinds : x.field.kind ≡ f.kind = kind_same x.field f s in
+      let forms : g.form ≡ form = some_same g.form form (sym g.known ∙ ap form_at kinds ∙ k) in
+      subst (IsValue 10 form) (value_same x.value v found) (subst (λ o. IsValue 10 o x.value) forms g.value)
+    ways false s found later = later found
+
+pub lookup_fits : (bytes : List ℕ) (fields : List Item) (f : FieldId) (form : Form) (v : List ℕ) → IsObject fields bytes → form_at f.kind ≡ Some form → lookup f fields ≡ Some v → IsValue 10 form v
+lookup_fits bytes fields f form v h k e = value_fits 0 fields f form v (listed (IsValue 10) false 0 fields bytes h).0 k e
+
+-- an object's bytes have no fault
+pub object_or_fault : OneReading → (bytes : List ℕ) (fault : ObjectFault) → IsFault bytes fault → HasFields bytes → ⊥
+object_or_fault one bytes fault (b, k) (a, h) =
+    let same : (a ≡ b) × (ends [] ≡ fails fault) = one 10 Fields a b bytes (ends []) (fails fault) (asks_less (IsValue 10) false _ _ (λ last left e. (e, refl)) 0 a bytes h) k in
+    let e : ends [] ≡ fails fault = same.1 in cc
+
+-- an object has one list
+pub one_list : OneReading → (a b : List Item) (bytes : List ℕ) → IsObject a bytes → IsObject b bytes → a ≡ b
+one_list one a b bytes h k =
+    (one 10 Fields a b bytes (ends []) (ends []) (asks_less (IsValue 10) false _ _ (λ last left e. (e, refl)) 0 a bytes h) (asks_less (IsValue 10) false _ _ (λ last left e. (e, refl)) 0 b bytes k)).0
+
+-- the amount that bytes are
+pub amount_of : OneAmount → (value : List ℕ) (a : Amount) (size : ℕ) → IsAmount value → AmountGives value (amounts.Amount a size) → IsValid a × (value ≡ amount_bytes a)
+amount_of one value a size (b, valid, is) h =
+    let rest : (a ≡ b) × (drop size value ≡ []) =
+      one a b (drop size value) [] h.0 valid (ap (λ x. x ++ drop size value) (sym h.2) ∙ take-append-drop size value ∙ is ∙ sym (append-nil (amount_bytes b))) in
+    (h.0, is ∙ sym (ap amount_bytes rest.0))
+
+pub amount_begins : (value : List ℕ) → IsAmount value → Begins IsAmount value
+amount_begins value is = (value, [], is, sym (append-nil value))
+
+pub given_amount : (found : Option (List ℕ)) (value : List ℕ) (a : Amount) → found ≡ Some value → IsValid a × (value ≡ amount_bytes a) → IsAmountOf found (Some a)
+given_amount found value a e h = subst (λ o. IsAmountOf o (Some a)) (sym e) h
