@@ -4,13 +4,20 @@
 mod input_line;
 mod line_fault;
 mod output_line;
+mod printing;
+mod reading;
 mod result_name;
 mod settlement;
+mod spelling;
 mod verdict;
+mod words;
 
 pub use input_line::InputLine;
 pub use line_fault::LineFault;
 pub use output_line::OutputLine;
+pub use printing::print_line;
+pub use reading::read_line;
 pub use result_name::ResultName;
 pub use settlement::Settlement;
+pub use spelling::{reads_named, reads_shaped, reads_spelled};
 pub use verdict::Verdict;

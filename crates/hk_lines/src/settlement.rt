@@ -1,4 +1,6 @@
 //! How an emission left the queue.
+ghost use Rattle.std.specs.Prelude.{◌≡◌};
+ghost use Rattle.hk_lines.specs.Names.{settlement_name};
 
 /// How an emission was settled.
 #[derive(Clone, Copy, Debug, PartialEq, Eq)]
@@ -9,4 +11,17 @@ pub enum Settlement {
     Refused,
     /// Its last ledger had passed before its turn came.
     Expired,
+}
+
+impl Settlement {
+    /// The name as it is printed.
+    pub fn name(&self) -> &'static str
+        ensures name { result.now ≡ settlement_name self.now }
+    {
+        match self {
+            Settlement::Applied => "applied",
+            Settlement::Refused => "refused",
+            Settlement::Expired => "expired",
+        }
+    }
 }

@@ -1,0 +1,4 @@
+pub mod Numerals
+pub mod HexWords
+pub mod Parts
+pub mod Spelled
