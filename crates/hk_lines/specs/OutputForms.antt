@@ -73,6 +73,13 @@ line_text (FinalQueued number first last) =
 line_text (FinalTotal balances burnt) = codes "final total " ++ (decimal balances ++ (codes " burnt " ++ (decimal burnt ++ 10 ∷ [])))
 line_text Done = codes "done" ++ 10 ∷ []
 
+-- the line tells of no run of a hook
+abbrev pub IsNoRun : OutputLine → Type 0
+IsNoRun (Run outcome count bound) = ⊥
+IsNoRun (Hook account position outcome count bound) = ⊥
+IsNoRun (Callback account position outcome count bound) = ⊥
+IsNoRun line = Unit {0}
+
 -- the line stands at the end
 abbrev pub IsFinal : OutputLine → Type 0
 IsFinal (FinalAccount id balance sequence hooks states) = Unit {0}

@@ -2,7 +2,7 @@
 ghost use Rattle.std.specs.Prelude.{◌≡◌, ◌++◌, ◌∷◌, [], string_bytes, IfOk, OnErr, OnOk};
 ghost use Rattle.hk_base.specs.Hexadecimal.{hex_text};
 ghost use Rattle.hk_lines.specs.Names.{trap_name};
-ghost use Rattle.hk_lines.specs.OutputForms.{bytes_text, result_text, value_text, outcome_text, run_text, entry_text, line_text, IsFinal};
+ghost use Rattle.hk_lines.specs.OutputForms.{bytes_text, result_text, value_text, outcome_text, run_text, entry_text, line_text, IsNoRun, IsFinal};
 
 use crate::{OutputLine, ResultName};
 use hk_base::{AccountId, Hash256, Items, NoMemory, Outcome, Trap};
@@ -30,6 +30,38 @@ fn write_line(alloc: Global, line: &OutputLine) -> Result<String, NoMemory>
             let run = write_run(alloc, outcome, *count, *bound)?;
             format!(in alloc; "{run}\n")
         }
+        OutputLine::Hook {
+            account,
+            position,
+            outcome,
+            count,
+            bound,
+        } => {
+            let account = write_hex(alloc, &account.0)?;
+            let run = write_run(alloc, outcome, *count, *bound)?;
+            format!(in alloc; "hook {account} {position} {run}\n")
+        }
+        OutputLine::Callback {
+            account,
+            position,
+            outcome,
+            count,
+            bound,
+        } => {
+            let account = write_hex(alloc, &account.0)?;
+            let run = write_run(alloc, outcome, *count, *bound)?;
+            format!(in alloc; "callback {account} {position} {run}\n")
+        }
+        _ => write_event_line(alloc, line),
+    }
+}
+
+// The text of a line that tells of no run.
+fn write_event_line(alloc: Global, line: &OutputLine) -> Result<String, NoMemory>
+    requires event { IsNoRun line.now }
+    ensures text { IfOk result (λ text. string_bytes text ≡ line_text line.now) }
+{
+    match line {
         OutputLine::Ledger { seq } => format!(in alloc; "ledger {seq}\n"),
         OutputLine::Tx {
             number,
@@ -49,17 +81,6 @@ fn write_line(alloc: Global, line: &OutputLine) -> Result<String, NoMemory>
             let result = name_or_dash(result);
             format!(in alloc; "settled {number} {word} {result} fee {fee}\n")
         }
-        OutputLine::Hook {
-            account,
-            position,
-            outcome,
-            count,
-            bound,
-        } => {
-            let account = write_hex(alloc, &account.0)?;
-            let run = write_run(alloc, outcome, *count, *bound)?;
-            format!(in alloc; "hook {account} {position} {run}\n")
-        }
         OutputLine::State {
             account,
             namespace,
@@ -75,17 +96,6 @@ fn write_line(alloc: Global, line: &OutputLine) -> Result<String, NoMemory>
             first,
             last,
         } => format!(in alloc; "emit {number} first {first} last {last}\n"),
-        OutputLine::Callback {
-            account,
-            position,
-            outcome,
-            count,
-            bound,
-        } => {
-            let account = write_hex(alloc, &account.0)?;
-            let run = write_run(alloc, outcome, *count, *bound)?;
-            format!(in alloc; "callback {account} {position} {run}\n")
-        }
         _ => write_final_line(alloc, line),
     }
 }
