@@ -4,3 +4,6 @@ pub mod InputForms
 pub mod Spelling
 pub mod Names
 pub mod OutputForms
+pub mod Cut
+pub mod Given
+pub mod Lines
