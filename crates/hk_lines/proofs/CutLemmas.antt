@@ -1,6 +1,7 @@
 -- The lines of joined bytes are the joined lines.
-use Rattle.std.proofs.Common.{◌≡◌, ℕ, ◌+◌, ◌≤◌, ◌==◌, Bool, true, false, if◌then◌else◌, List, [], ◌∷◌, ◌++◌, length, refl, sym, ap, ◌∙◌, arith, append_assoc, append-nil, length-append}
-use Rattle.std.proofs.lemmas.Bool.{eqb-true}
+use Rattle.std.proofs.Common.{◌≡◌, ◌≢◌, Bor, Option, Some, None, MatchOption, unwrap_or, inl, inr, ℕ, ◌+◌, ◌≤◌, ◌==◌, Bool, true, false, if◌then◌else◌, List, [], ◌∷◌, ◌++◌, length, refl, sym, ap, ◌∙◌, arith, append_assoc}
+use Rattle.std.proofs.lemmas.Bool.{eqb-true, cases_eq}
+use Rattle.std.proofs.lemmas.Bool.Decides.{nat_tests}
 use Rattle.hk_lines.specs.Cut.{Cut, behind, whole, onto, cut, begun, joined, trim, CutsJoined}
 
 -- nothing in front changes nothing
@@ -55,6 +56,29 @@ trim_length (byte ∷ []) = one (byte == 13) byte where
   one true byte = omega arith
   one false byte = omega arith
 trim_length (byte ∷ next ∷ line) = let rest : length (next ∷ line) ≤ length (trim (next ∷ line)) + 1 = trim_length (next ∷ line) in omega (arith, rest)
+
+-- a carriage return at the end is dropped
+trim_returned : (line : List ℕ) → trim (line ++ 13 ∷ []) ≡ line
+trim_returned [] = refl
+trim_returned (byte ∷ []) = refl
+trim_returned (byte ∷ next ∷ line) = ap (λ l. byte ∷ l) (trim_returned (next ∷ line))
+
+-- a line that ends in none is kept
+trim_kept : (line : List ℕ) → ((front : List ℕ) → line ≢ front ++ 13 ∷ []) → trim line ≡ line
+trim_kept [] none = refl
+trim_kept (byte ∷ []) none =
+    elim (cases_eq byte 13) [
+      | inl return ↦ absurd (none [] (ap (λ b. b ∷ []) return))
+      | inr other ↦ let test : (byte == 13) ≡ false = grind (arith, nat_tests) in ap (λ t. if t then [] else byte ∷ []) test
+    ]
+trim_kept (byte ∷ next ∷ line) none = ap (λ l. byte ∷ l) (trim_kept (next ∷ line) (λ front e. none (byte ∷ front) (ap (λ l. byte ∷ l) e)))
+
+-- a line whose suffix was taken off is trimmed
+pub trim_stripped : (stripped : Option (Bor (List ℕ))) (line : Bor (List ℕ)) →
+    MatchOption stripped ((front : List ℕ) → line.now ≢ front ++ 13 ∷ []) (λ text. line.now ≡ text.now ++ 13 ∷ []) →
+    (unwrap_or stripped line).now ≡ trim line.now
+trim_stripped (Some text) line h = sym (ap trim h ∙ trim_returned text.now)
+trim_stripped None line h = sym (trim_kept line.now h)
 
 -- ---- bytes that were cut
 

@@ -1,13 +1,13 @@
 -- Which bytes words spell in hex.
-use Rattle.std.proofs.Common.{◌≡◌, ℕ, ◌+◌, ◌*◌, ◌/◌, ◌%◌, ◌≤◌, ◌==◌, Bool, true, false, List, [], ◌∷◌, length, Option, Some, None, Result, Ok, Err, if◌then◌else◌, refl, sym, ap, ◌∙◌, arith, option_and_then, eq-eqb, inl, inr}
+use Rattle.std.proofs.Common.{◌≡◌, ℕ, ◌*◌, ◌/◌, ◌%◌, ◌==◌, true, false, List, [], ◌∷◌, length, Option, Some, None, Result, Ok, Err, refl, sym, ◌∙◌, arith, option_and_then, eq-eqb, inl, inr}
 use Rattle.std.proofs.lemmas.Bool.{cases_eq}
 use Rattle.std.proofs.lemmas.Bool.Decides.{nat_tests}
 use Rattle.std.specs.Result.{result_ok}
 use Rattle.hex.specs.declared.error.FromHexError.{FromHexError}
-use Rattle.hex.specs.Hex.{decode_sized, decode_of, decode_pairs}
+use Rattle.hex.specs.Hex.{decode_sized, decode_pairs}
 use Rattle.hk_base.specs.Hexadecimal.{hex_bytes, digit_value, pair_value, all_of}
 use Rattle.hk_base.proofs.HexText.{value_of, decode_of-is}
-use Rattle.hk_lines.specs.Words.{sized, sized_bytes_of, some_bytes_of}
+use Rattle.hk_lines.specs.Words.{sized, sized_bytes_of}
 
 -- a byte before bytes
 all_of-some : (byte : Option ℕ) (rest : Option (List ℕ)) (bytes : List ℕ) → all_of byte rest ≡ Some bytes →

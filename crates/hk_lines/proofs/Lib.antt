@@ -5,3 +5,4 @@ pub mod Spelled
 pub mod CutLemmas
 pub mod Fusing
 pub mod Due
+pub mod HeldLemmas

@@ -1,5 +1,5 @@
 -- Forms whose words aren't as many as they should be.
-use Rattle.std.proofs.Common.{◌≡◌, ℕ, List, [], ◌∷◌, length, Option, None, refl}
+use Rattle.std.proofs.Common.{◌≡◌, ℕ, List, [], ◌∷◌, length, None, refl}
 use Rattle.hk_lines.specs.InputForms.{account_of, ledger_of}
 
 pub account_none : (parts : List (List ℕ)) → (length parts ≡ 3 → ⊥) → None ≡ account_of parts

@@ -1,6 +1,6 @@
 -- Words are read as the line that they spell.
-use Rattle.std.proofs.Common.{◌≡◌, ◌≤◌, ◌<◌, ◌^◌, ◌⊎◌, ◌==◌, ◌↔◌, inl, inr, ℕ, Bool, true, false, if◌then◌else◌, List, [], ◌∷◌, length, codes, Option, Some, None, Result, Ok, Err, option_and_then, unwrap_or, refl, sym, ap, subst, ◌∙◌, arith, eq-eqb}
-use Rattle.std.proofs.lemmas.Bool.{eqb-true, cases_eq}
+use Rattle.std.proofs.Common.{◌≡◌, ◌≤◌, ◌⊎◌, ◌==◌, inl, inr, ℕ, Bool, true, false, if◌then◌else◌, List, [], ◌∷◌, length, codes, Option, Some, None, Ok, Err, option_and_then, unwrap_or, refl, sym, ap, subst, ◌∙◌, arith, eq-eqb}
+use Rattle.std.proofs.lemmas.Bool.{eqb-true}
 use Rattle.std.proofs.lemmas.Bool.Decides.{nat_tests}
 use Rattle.std.proofs.lemmas.Slice.Eq.{bytes_eq-Decides}
 use Rattle.std.specs.Fmt.{decimal}
@@ -15,7 +15,6 @@ use Rattle.hk_lines.specs.InputForms.{id_of, hash_of, account_of, ledger_of, ver
 use Rattle.hk_lines.specs.Spelling.{Spells, SpellsBytes, verdict_word, IsNamed, ReadsSpelled, ReadsNamed, ReadsShaped}
 use Rattle.hk_lines.specs.declared.input_line.InputLine.{InputLine}
 use Rattle.hk_lines.specs.declared.input_line.InputLine.TheVariants.{Account, Ledger, Tx, Hook, End}
-use Rattle.hk_lines.specs.declared.line_fault.LineFault.{LineFault}
 use Rattle.hk_lines.specs.declared.line_fault.LineFault.TheVariants.{BadWord, BadShape}
 use Rattle.hk_lines.specs.declared.verdict.Verdict.{Verdict}
 use Rattle.hk_lines.specs.declared.verdict.Verdict.TheVariants.{Good, Bad}

@@ -62,7 +62,7 @@ module _ {S : Type 0} (turn : S → List ℕ → Turn S) where
   abbrev pub given_line : S → ℕ → List ℕ → (S → Given) → Given
   given_line state number line later =
       if nat_le (length line) longest_line then
-        (if is_skipped line then later state else after_turn (turn state line) number later)
+      (if is_skipped line then later state else after_turn (turn state line) number later)
       else bad number LineTooLong
 
   -- the bytes behind the last line feed: a line at the end of input, unless there are none; nothing before that

@@ -7,3 +7,4 @@ pub mod OutputForms
 pub mod Cut
 pub mod Given
 pub mod Lines
+pub mod Cutting

@@ -1,7 +1,7 @@
 -- The lines of bytes, and a machine that goes through them (this project's own).
-use Rattle.std.specs.Prelude.{◌≡◌, ℕ, ◌+◌, nat_le, if◌then◌else◌, List, [], ◌∷◌, length, take, Option, Some, None}
+use Rattle.std.specs.Prelude.{◌≡◌, ℕ, ◌+◌, nat_le, if◌then◌else◌, List, [], ◌∷◌, length, take, Some, None}
 use Rattle.hk_lines.specs.Cut.{Cut, behind, whole, cut, trim, is_skipped}
-use Rattle.hk_lines.specs.Given.{Close, opened, ended, full, Given, after, bad, too_long, Turn, goes, ends, wrong, close_of, given}
+use Rattle.hk_lines.specs.Given.{Close, opened, ended, full, Given, after, bad, too_long, Turn, goes, ends, wrong, given}
 use Rattle.hk_lines.specs.Numbers.{longest_line, endless_line}
 use Rattle.hk_lines.specs.declared.rule.Rule.{Rule}
 use Rattle.hk_lines.specs.declared.rule.Rule.TheVariants.{LineTooLong, NoEnd}
@@ -35,7 +35,7 @@ module _ {Q L : Type 0} (read : Q → List ℕ → Read Q L) where
   abbrev pub lines_line : Q → ℕ → List ℕ → (Q → Lines L) → Lines L
   lines_line order number line later =
       if nat_le (length line) longest_line then
-        (if is_skipped line then later order else after_read (read order line) number later)
+      (if is_skipped line then later order else after_read (read order line) number later)
       else last (bad_at number LineTooLong)
 
   -- the bytes behind the last line feed

@@ -1,6 +1,7 @@
 //! Laws of cutting, of what is given, and of lines.
 ghost use Rattle.std.specs.Prelude.{List, ℕ};
 ghost use Rattle.hk_lines.specs.Cut.{CutsJoined};
+ghost use Rattle.hk_lines.specs.Cutting.{CutsPieces};
 ghost use Rattle.hk_lines.specs.Given.{Turn, StaysDue};
 ghost use Rattle.hk_lines.specs.Lines.{Read, Machine, Fuses};
 
@@ -23,17 +24,19 @@ pub trait LineMachine {
 /// The lines of joined bytes are the joined lines.
 pub fn cuts_joined()
     ensures law { CutsJoined }
-{
-}
+{}
 
 /// What is due stays due, whatever comes behind the bytes.
 pub fn stays_due<T: LineByLine>()
     ensures law { StaysDue T.turn }
-{
-}
+{}
 
 /// Reading and running line by line gives what the machine gives for the lines.
 pub fn fuses<M: LineMachine>()
     ensures law { Fuses M.read M.machine }
-{
-}
+{}
+
+/// The lines and the rest of pieces are those of the joined bytes.
+pub fn cuts_pieces()
+    ensures law { CutsPieces }
+{}

@@ -1,6 +1,7 @@
 //! Lines: what the program reads and prints, and how bytes are cut into lines.
 #![tactic(auto)]
 
+mod cutting;
 mod input_line;
 mod laws;
 mod line_fault;
@@ -15,8 +16,9 @@ mod status;
 mod verdict;
 mod words;
 
+pub use cutting::{CutLine, Cutter};
 pub use input_line::InputLine;
-pub use laws::{LineByLine, LineMachine, cuts_joined, fuses, stays_due};
+pub use laws::{LineByLine, LineMachine, cuts_joined, cuts_pieces, fuses, stays_due};
 pub use line_fault::LineFault;
 pub use output_line::OutputLine;
 pub use printing::print_line;
