@@ -1,17 +1,12 @@
 //! Bytes that come in pieces are cut into lines.
-ghost use Rattle.std.specs.Prelude.{◌≡◌, ◌<◌, ◌≤◌, ◌⊎◌, ◌++◌, [], List, ℕ, length, take, MatchOption, IfOk, OnErr};
+ghost use Rattle.std.specs.Prelude.{◌≡◌, ◌<◌, ◌≤◌, ◌⊎◌, ◌++◌, [], List, ℕ, length, take, MatchOption, IfOk, IfSome, OnErr};
 ghost use Rattle.hk_lines.specs.Cut.{cut, behind, whole};
 ghost use Rattle.hk_lines.specs.Cutting.{IsUnfinished, IsReady, IsHeld, Shows, ShowsReady};
 
+use crate::limits::{ENDLESS_LINE, LONGEST_LINE};
 use hk_base::NoMemory;
 use std::alloc::Global;
 use std::marker::Model;
-
-/// The most bytes of a line, without its line feed and the carriage return before it.
-const LONGEST_LINE: usize = 2_097_152;
-
-/// So many bytes without a line feed are too long for a line, whatever follows them.
-const ENDLESS_LINE: usize = 2_097_154;
 
 /// A line of input.
 #[derive(Clone, Copy, Debug)]
@@ -74,6 +69,7 @@ impl Cutter {
     /// takes no memory.
     pub fn ready(&self) -> Option<CutLine<'_>>
         ensures line { MatchOption result (IsUnfinished self.now) (λ line. ShowsReady self.now line) }
+        ensures stands { IfSome result (λ _. IsReady self.now) }
     {
         match self.held.as_slice().strip_suffix(b"\n") {
             Some(line) => Some(shown(line)),

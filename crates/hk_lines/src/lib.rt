@@ -4,6 +4,7 @@
 mod cutting;
 mod input_line;
 mod laws;
+mod limits;
 mod line_fault;
 mod output_line;
 mod printing;
@@ -13,6 +14,8 @@ mod rule;
 mod settlement;
 mod spelling;
 mod status;
+#[cfg(test)]
+mod tests;
 mod verdict;
 mod words;
 

@@ -2,16 +2,11 @@
 ghost use Rattle.std.specs.Prelude.{◌≡◌, ◌⊎◌, map, IfOk};
 ghost use Rattle.hk_lines.specs.InputForms.{account_of, ledger_of, verdict_of, tx_of, hook_of, end_of, words_read, line_read};
 
+use crate::limits::{LONGEST_LINE, MOST_DROPS};
 use crate::words::{read_bytes, read_number, read_sized, split_words};
 use crate::{InputLine, LineFault, Verdict};
 use hk_base::{AccountId, Hash256, NoMemory};
 use std::alloc::Global;
-
-/// The most bytes of a line.
-const LONGEST_LINE: usize = 2_097_152;
-
-/// The most drops of a balance.
-const MOST_DROPS: u64 = 100_000_000_000_000_000;
 
 /// Reads a line, without its line feed and the carriage return before it.
 ///

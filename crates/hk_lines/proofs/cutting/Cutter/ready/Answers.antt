@@ -1,7 +1,7 @@
 use Rattle.std.proofs.Common.{◌≡◌, ◌≢◌, ℕ, List, [], ◌∷◌, ◌++◌, length, Some, None, inl, inr, refl, sym, ap, subst, ◌∙◌}
 use Rattle.std.proofs.lemmas.Bool.Decides.{Decides-eqb}
 use Rattle.std.proofs.lemmas.Slice.Eq.{strip_suffix_is}
-use Rattle.hk_lines.specs.Cutting.{IsUnfinished, ShowsReady}
+use Rattle.hk_lines.specs.Cutting.{IsUnfinished, IsReady, ShowsReady}
 use Rattle.hk_lines.specs.Numbers.{endless_line}
 use Rattle.hk_lines.specs.declared.cutting.CutLine.TheVariants.{TooLong}
 use Rattle.hk_lines.proofs.HeldLemmas.{held_line, held_endless, held_unfinished}
@@ -14,7 +14,10 @@ returns-in-Some c =
     sym c.as_slice.ensures.value
     ∙ strip_suffix_is Decides-eqb c.as_slice.result.now (10 ∷ []) (Some c.in-Some.line) c.in-Some.ensures.cases in
     let is = held_line c.self.inside.held.items c.in-Some.line.now c.self.invariant ends in
-    record { line = subst (λ held. ShowsReady held c.shown.result) c.self.view_is (inl (c.in-Some.line.now, is, c.shown.ensures.shows)) }
+    record {
+      line = subst (λ held. ShowsReady held c.shown.result) c.self.view_is (inl (c.in-Some.line.now, is, c.shown.ensures.shows));
+      stands = subst IsReady c.self.view_is (inr (c.in-Some.line.now, is));
+    }
 
 -- too many bytes without one were taken
 pub returns-in-None : goal.returns-in-None
@@ -24,7 +27,10 @@ returns-in-None c =
     (strip_suffix_is Decides-eqb c.as_slice.result.now (10 ∷ []) None c.in-None.ensures.cases) in
     let all : length c.self.inside.held.items ≡ endless_line = ap length (sym c.as_slice.ensures.value) ∙ c.as_slice.ensures.len ∙ sym c.len.ensures ∙ c.if-len-eq-ENDLESS_LINE.true in
     let is = held_endless c.self.inside.held.items c.self.invariant none all in
-    record { line = subst (λ held. ShowsReady held TooLong) c.self.view_is (inr (is, refl)) }
+    record {
+      line = subst (λ held. ShowsReady held TooLong) c.self.view_is (inr (is, refl));
+      stands = subst IsReady c.self.view_is (inl is);
+    }
 
 -- neither
 pub returns-in-None-2 : goal.returns-in-None-2
@@ -33,4 +39,4 @@ returns-in-None-2 c =
     subst (λ held. (front : List ℕ) → held ≢ front ++ 10 ∷ []) c.as_slice.ensures.value
     (strip_suffix_is Decides-eqb c.as_slice.result.now (10 ∷ []) None c.in-None.ensures.cases) in
     let fewer : length c.self.inside.held.items ≡ endless_line → ⊥ = λ all. c.if-len-eq-ENDLESS_LINE.false (c.len.ensures ∙ sym c.as_slice.ensures.len ∙ ap length c.as_slice.ensures.value ∙ all) in
-    record { line = subst IsUnfinished c.self.view_is (held_unfinished c.self.inside.held.items c.self.invariant none fewer) }
+    record { stands = tt; line = subst IsUnfinished c.self.view_is (held_unfinished c.self.inside.held.items c.self.invariant none fewer) }
