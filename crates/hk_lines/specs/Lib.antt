@@ -1,0 +1,10 @@
+pub mod Numbers
+pub mod Words
+pub mod InputForms
+pub mod Spelling
+pub mod Names
+pub mod OutputForms
+pub mod Cut
+pub mod Given
+pub mod Lines
+pub mod Cutting

@@ -1,0 +1,91 @@
+-- What a piece gives, part by part.
+use Rattle.std.proofs.Common.{◌≡◌, ◌⊎◌, ℕ, ◌+◌, ◌<◌, ◌≤◌, nat_le, false, if◌then◌else◌, List, [], ◌∷◌, ◌++◌, length, take, drop, Option, Some, None, refl, sym, ap, subst, ◌∙◌, inl, inr, arith, append_assoc}
+use Rattle.std.proofs.lemmas.Bool.Decides.{nat_tests}
+use Rattle.std.proofs.lemmas.List.{take-append-drop}
+use Rattle.hk_lines.specs.Cut.{Cut, behind, whole, cut, begun, joined, trim, is_skipped}
+use Rattle.hk_lines.specs.Cutting.{IsUnfinished, IsLine, IsEndless, Shows, ShowsReady}
+use Rattle.hk_lines.specs.Given.{Close, Given, after, bad, Turn, given_line, given_from, after_turn}
+use Rattle.hk_lines.specs.Numbers.{longest_line, endless_line}
+use Rattle.hk_lines.specs.declared.cutting.CutLine.{CutLine}
+use Rattle.hk_lines.specs.declared.cutting.CutLine.TheVariants.{TooLong}
+use Rattle.hk_lines.specs.declared.rule.Rule.TheVariants.{LineTooLong}
+use Rattle.hk_lines.specs.declared.status.Status.{Status}
+use Rattle.hk_lines.proofs.CutLemmas.{cut_joined, begun_joined, begun_nothing, joined_joined, trim_length}
+use Rattle.hk_lines.proofs.Due.{endless}
+use Rattle.hk_loop.specs.Turned.{led}
+
+-- held bytes and what comes behind them, where so many bytes of a piece are taken
+fed : (held piece now : List ℕ) (count : ℕ) (more : Cut) → cut held ≡ behind held → now ≡ held ++ take count piece →
+    begun held (joined (cut piece) more) ≡ joined (cut now) (joined (cut (drop count piece)) more)
+fed held piece now count more uncut_held is =
+    let parts : held ++ piece ≡ now ++ drop count piece =
+        ap (λ p. held ++ p) (sym (take-append-drop count piece))
+        ∙ sym (append_assoc held (take count piece) (drop count piece))
+        ∙ ap (λ n. n ++ drop count piece) (sym is) in
+    let all : begun held (cut piece) ≡ joined (cut now) (cut (drop count piece)) =
+        sym (cut_joined held piece ∙ ap (λ c. joined c (cut piece)) uncut_held) ∙ ap cut parts ∙ cut_joined now (drop count piece) in
+    begun_joined held (cut piece) more
+    ∙ ap (λ c. joined c more) all
+    ∙ joined_joined (cut now) (cut (drop count piece)) more
+
+module _ {S : Type 0} (turn : S → List ℕ → Turn S) where
+  -- no line is whole yet
+  pub part_unready : (state : S) (number : ℕ) (held piece now : List ℕ) (count : ℕ) (out : List ℕ) → cut held ≡ behind held →
+      now ≡ held ++ take count piece → cut now ≡ behind now → (more : Cut) (close : Close) →
+      after out (given_from turn state number (begun held (joined (cut piece) more)) close)
+      ≡ after out (given_from turn state number (begun now (joined (cut (drop count piece)) more)) close)
+  part_unready state number held piece now count out uncut_held is uncut_now more close =
+      ap (λ c. after out (given_from turn state number c close))
+        (fed held piece now count more uncut_held is ∙ ap (λ c. joined c (joined (cut (drop count piece)) more)) uncut_now)
+
+  -- what a line that was taken gives
+  pub record Takes (state : S) (number : ℕ) (shown : CutLine) (out : List ℕ) (stop : Option Status) (next : S) (later : List ℕ) : Type 0 where
+    pub given : (raw : List ℕ) → Shows raw shown → (rest : S → Given) →
+        after out (given_line turn state number (trim raw) rest) ≡ led stop later (rest next)
+
+  -- a line of so many bytes is too long
+  too_long_line : (state : S) (number : ℕ) (bytes : List ℕ) (rest : S → Given) → longest_line < length (trim bytes) →
+      given_line turn state number (trim bytes) rest ≡ bad number LineTooLong
+  too_long_line state number bytes rest long =
+      let test : nat_le (length (trim bytes)) longest_line ≡ false = grind (arith, nat_tests) in
+      ap (λ t. if t then (if is_skipped (trim bytes) then rest state else after_turn turn (turn state (trim bytes)) number rest) else bad number LineTooLong) test
+
+  -- a line is whole, or endless
+  pub part_ready : (state next : S) (number : ℕ) (held piece now : List ℕ) (count : ℕ) (out later : List ℕ) (shown : CutLine) (stop : Option Status) →
+      cut held ≡ behind held → now ≡ held ++ take count piece → ShowsReady now shown → Takes state number shown out stop next later →
+      (more : Cut) (close : Close) →
+      after out (given_from turn state number (begun held (joined (cut piece) more)) close)
+      ≡ led stop later (given_from turn next (number + 1) (begun [] (joined (cut (drop count piece)) more)) close)
+  part_ready state next number held piece now count out later shown stop uncut_held is (inl (line, cuts, shows)) takes more close =
+      let rest : Cut = joined (cut (drop count piece)) more in
+      ap (λ c. after out (given_from turn state number c close))
+        (fed held piece now count more uncut_held is ∙ ap (λ c. joined c rest) cuts.0)
+      ∙ takes.given line shows (λ s. given_from turn s (number + 1) (begun [] rest) close)
+  part_ready state next number held piece now count out later shown stop uncut_held is (inr (all, too_long)) takes more close =
+      let rest : Cut = joined (cut (drop count piece)) more in
+      let trimmed : length now ≤ length (trim now) + 1 = trim_length now in
+      let size : length now ≡ endless_line = all.1 in
+      let long : longest_line < length (trim now) = omega (arith, trimmed, size) in
+      let shows : Shows now shown = subst (Shows now) (sym too_long) long in
+      let goes : S → Given = λ s. given_from turn s (number + 1) (begun [] rest) close in
+      let reached : endless_line ≤ length now = omega (arith, size) in
+      ap (λ c. after out (given_from turn state number c close))
+        (fed held piece now count more uncut_held is ∙ ap (λ c. joined c rest) all.0)
+      ∙ ap (after out) (endless turn state number now rest close reached ∙ sym (too_long_line state number now goes long))
+      ∙ takes.given now shows goes
+
+  -- what a front of a piece gave, and what is left of it
+  pub record Leads (state : S) (number : ℕ) (held out piece : List ℕ) (state' : S) (number' : ℕ) (held' out' piece' : List ℕ) : Type 0 where
+    pub given : (more : Cut) (close : Close) →
+        after out (given_from turn state number (begun held (joined (cut piece) more)) close)
+        ≡ after out' (given_from turn state' number' (begun held' (joined (cut piece') more)) close)
+
+  -- nothing is left of a piece
+  pub leads_end : (state : S) (number : ℕ) (held out piece : List ℕ) (state' : S) (number' : ℕ) (held' out' piece' : List ℕ) →
+      Leads state number held out piece state' number' held' out' piece' → piece' ≡ [] → (more : Cut) (close : Close) →
+      after out (given_from turn state number (begun held (joined (cut piece) more)) close)
+      ≡ after out' (given_from turn state' number' (begun held' more) close)
+  leads_end state number held out piece state' number' held' out' piece' leads none more close =
+      leads.given more close
+      ∙ ap (λ p. after out' (given_from turn state' number' (begun held' (joined (cut p) more)) close)) none
+      ∙ ap (λ c. after out' (given_from turn state' number' (begun held' c) close)) (begun_nothing more)
