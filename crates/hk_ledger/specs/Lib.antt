@@ -1,0 +1,5 @@
+pub mod Keys
+pub mod Writes
+pub mod Holdings
+pub mod Ledger
+pub mod Balances
