@@ -1,3 +1,6 @@
 pub mod Kept
 pub mod Copied
 pub mod Newest
+pub mod Fits
+pub mod Whole
+pub mod Reported

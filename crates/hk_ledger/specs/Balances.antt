@@ -1,5 +1,5 @@
 -- The sum of all balances. This project's own.
-use Rattle.std.specs.Prelude.{◌≡◌, ℕ, ◌+◌, ◌≤◌, Bool, true, false, cond, ◌&&◌, T, List, [], ◌∷◌, Option, Some, None, refl}
+use Rattle.std.specs.Prelude.{◌≡◌, ℕ, ◌+◌, ◌≤◌, Bool, true, false, cond, ◌&&◌, T, List, [], ◌∷◌, length, Option, Some, None, refl}
 use Rattle.std.proofs.Common.{◌∙◌, ap, sym, arith, subst}
 use Rattle.std.specs.declared.cmp.Ordering.{Ordering}
 use Rattle.std.specs.declared.cmp.Ordering.TheVariants.{Less, Equal, Greater}
@@ -7,7 +7,7 @@ use Rattle.std.specs.Ordering.{is_lt, is_eq}
 use Rattle.std.specs.Cmp.{IsTotalOrder}
 use Rattle.std.proofs.lemmas.Cmp.{tied_itself}
 
-use Rattle.std.specs.FinMap.{FinMap, get, insert, remove, find, put, is_sorted, entries, get-entries, get-insert, get-remove, entries-insert, entries_sorted, same_map, get_tied}
+use Rattle.std.specs.FinMap.{FinMap, get, insert, remove, find, put, is_sorted, entries, get-entries, get-insert, get-remove, entries-insert, entries_sorted, same_map, empty, len-entries, len-empty}
 use Rattle.hk_ledger.specs.Keys.{key_cmp, is_key, keys_total, exact_keys}
 use Rattle.hk_ledger.specs.declared.key.Key.{Key}
 use Rattle.hk_ledger.specs.declared.entry.Entry.{Entry}
@@ -131,3 +131,11 @@ balances-remove m key =
 -- no balance is above the sum
 pub one_balance : (m : FinMap key_cmp Entry) (key : Key) → balance_or_zero (get m key) ≤ balances m
 one_balance m key = let rest = balances-remove m key in omega (arith, rest)
+
+no_entries : (es : List (Key × Entry)) → length es ≡ 0 → total balance_of es ≡ 0
+no_entries [] h = refl
+no_entries (e ∷ es) h = absurd (omega arith)
+
+pub balances-empty : balances empty ≡ 0
+unfolding balances
+balances-empty = no_entries (entries empty) (sym (len-entries empty) ∙ len-empty key_cmp Entry)

@@ -1,6 +1,8 @@
 //! Entries of the ledger.
-ghost use Rattle.std.specs.Prelude.{◌≡◌, IfOk};
+ghost use Rattle.std.specs.Prelude.{◌≡◌, Some, IfOk};
+ghost use Rattle.hk_ledger.specs.Holdings.{as_holding};
 
+use crate::Holding;
 use hk_base::{Items, NoMemory};
 
 /// An entry of the ledger, of the kind of its key.
@@ -23,6 +25,19 @@ impl Entry {
                 sequence: *sequence,
             }),
             Entry::Other(bytes) => Ok(Entry::Other(bytes.copy()?)),
+        }
+    }
+
+    /// An account's balance and sequence, and none of another kind of entry.
+    pub fn holding(&self) -> Option<Holding>
+        ensures holding { result ≡ as_holding (Some self.now) }
+    {
+        match self {
+            Entry::Account { balance, sequence } => Some(Holding {
+                balance: *balance,
+                sequence: *sequence,
+            }),
+            Entry::Other(_) => None,
         }
     }
 }

@@ -4,6 +4,7 @@ ghost use Rattle.std.specs.Option.{option_copied};
 ghost use Rattle.std.specs.FinMap as map;
 ghost use Rattle.hk_ledger.specs.Ledger.{LedgerValue, new_ledger, committed};
 ghost use Rattle.hk_ledger.specs.Holdings.{holding_at};
+ghost use Rattle.hk_ledger.specs.World.{with_account};
 
 use crate::{Entries, Entry, Holding, Key, Overlay};
 use hk_base::{AccountId, Hash256, NoMemory};
@@ -61,6 +62,16 @@ impl Ledger {
         self.entries.get(key)
     }
 
+    /// What the ledger holds for an account.
+    pub fn holding(&self, id: &AccountId) -> Option<Holding>
+        ensures holding { result ≡ holding_at self.now.entries id.now }
+    {
+        match self.get(&Key::Account(*id)) {
+            Some(entry) => entry.holding(),
+            None => None,
+        }
+    }
+
     pub fn header(&self) -> Header
         ensures header { result ≡ self.now.header }
     {
@@ -86,6 +97,20 @@ impl Ledger {
         ensures header { self.new ≡ record self.old { header = header } }
     {
         self.header = header;
+    }
+
+    // Sets an account's balance and sequence. A refused call changes nothing.
+    pub(crate) fn open(&mut self, id: &AccountId, holding: Holding) -> Result<(), NoMemory>
+        ensures ok { OnOk result (self.new ≡ with_account self.old id.now holding.balance holding.sequence) }
+        ensures err { OnErr result (self.new ≡ self.old) }
+    {
+        self.entries.put(
+            Key::Account(*id),
+            Entry::Account {
+                balance: holding.balance,
+                sequence: holding.sequence,
+            },
+        )
     }
 
     /// Makes all writes, and adds to the next number and to the burnt fees. A refused call changes nothing.

@@ -2,10 +2,12 @@
 ghost use Rattle.std.specs.Prelude.{◌≡◌, [], ◌∷◌, Some, None, IfOk, OnErr, OnOk};
 ghost use Rattle.std.specs.Option.{option_copied};
 ghost use Rattle.std.specs.FinMap as map;
+ghost use Rattle.hk_ledger.specs.Keys.{key_cmp};
+ghost use Rattle.hk_ledger.specs.Holdings.{holding_at, with_holding};
 ghost use Rattle.hk_ledger.specs.Writes.{write, with_writes};
 
-use crate::{Entries, Entry, Key, Ledger};
-use hk_base::NoMemory;
+use crate::{Entries, Entry, Holding, Key, Ledger};
+use hk_base::{AccountId, NoMemory};
 use std::alloc::{AllocError, Global};
 use std::collections::VecDeque;
 use std::marker::Model;
@@ -53,12 +55,36 @@ impl Overlay {
         ledger.get(key)
     }
 
+    /// What the ledger with all writes made holds for an account.
+    pub fn holding(&self, ledger: &Ledger, id: &AccountId) -> Option<Holding>
+        ensures holding { result ≡ holding_at (with_writes ledger.now.entries self.now) id.now }
+    {
+        match self.get(ledger, &Key::Account(*id)) {
+            Some(entry) => entry.holding(),
+            None => None,
+        }
+    }
+
     /// Sets the entry at a key. A refused call changes nothing.
     pub fn put(&mut self, key: Key, entry: Entry) -> Result<(), NoMemory>
         ensures ok { OnOk result (self.new ≡ (key, Some entry) ∷ self.old) }
         ensures err { OnErr result (self.new ≡ self.old) }
     {
         self.write(key, Some(entry))
+    }
+
+    /// Sets an account's balance and sequence. A refused call changes nothing.
+    pub fn put_holding(&mut self, id: &AccountId, holding: Holding) -> Result<(), NoMemory>
+        ensures ok { OnOk result ((m : map.FinMap key_cmp Entry) → with_writes m self.new ≡ with_holding (with_writes m self.old) id.now holding.balance holding.sequence) }
+        ensures err { OnErr result (self.new ≡ self.old) }
+    {
+        self.put(
+            Key::Account(*id),
+            Entry::Account {
+                balance: holding.balance,
+                sequence: holding.sequence,
+            },
+        )
     }
 
     /// Removes the entry at a key. A refused call changes nothing.
