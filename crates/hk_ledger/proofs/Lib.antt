@@ -4,3 +4,5 @@ pub mod Newest
 pub mod Fits
 pub mod Whole
 pub mod Reported
+pub mod Ordered
+pub mod Opening

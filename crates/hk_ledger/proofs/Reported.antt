@@ -3,6 +3,7 @@ use Rattle.std.proofs.Common.{◌≡◌, ℕ, ◌+◌, ◌≤◌, ◌∙◌, ap,
 use Rattle.xo_object.specs.declared.transaction.Transaction.{Transaction}
 use Rattle.hk_lines.specs.declared.verdict.Verdict.{Verdict}
 use Rattle.hk_lines.specs.declared.result_name.ResultName.{ResultName}
+use Rattle.hk_ledger.specs.declared.reading.Reading.TheVariants as reading
 use Rattle.hk_ledger.specs.declared.report.Report.{Report}
 use Rattle.hk_ledger.specs.Balances.{balances}
 use Rattle.hk_ledger.specs.Conserved.{Taken, taken, settled_sum}
@@ -10,7 +11,7 @@ use Rattle.hk_ledger.specs.Ledger.{LedgerValue}
 use Rattle.hk_ledger.specs.Reports.{Reports}
 use Rattle.hk_ledger.specs.Rows.{first_row}
 use Rattle.hk_ledger.specs.Rules.{Rules, Effect, keeps, fails, KeepsSum}
-use Rattle.hk_ledger.specs.Transactions.{Ends, applied, goes_on, reads, paid, refusal_rows, settled}
+use Rattle.hk_ledger.specs.Transactions.{Ends, applied, goes_on, paid, refusal_rows, settled}
 use Rattle.hk_ledger.specs.World.{IsWhole}
 
 settled_fee : (ledger : LedgerValue) (t : Transaction) (effect : Effect) → t.fee ≡ (settled ledger t effect).fee
@@ -37,7 +38,7 @@ pub reported : (rules : Rules) (ledger now : LedgerValue) (opening : ℕ) (verdi
     first_row (refusal_rows ledger verdict t) ≡ None →
     Ends (settled ledger t (rules ledger.header (paid ledger.entries t) t)) name now →
     report ≡ record { result = Some name; fee = t.fee; lines = [] } →
-    Reports (applied rules ledger verdict (reads t)) (record { ledger = ledger; opening = opening }) (record { ledger = now; opening = opening }) report
+    Reports (applied rules ledger verdict (reading.Transaction t)) (record { ledger = ledger; opening = opening }) (record { ledger = now; opening = opening }) report
 reported rules ledger now opening verdict t name report none done is =
     subst (λ found. Reports (goes_on rules ledger t found) (record { ledger = ledger; opening = opening }) (record { ledger = now; opening = opening }) report) (sym none)
       (record {

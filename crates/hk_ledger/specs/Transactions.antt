@@ -1,11 +1,13 @@
 -- What a transaction does to the ledger: its results in their order, and what each of them keeps. This project's own.
-use Rattle.std.specs.Prelude.{◌≡◌, ℕ, ◌+◌, ◌-◌, Bool, true, false, nat_lt, List, [], ◌∷◌, Option, Some, None}
+use Rattle.std.specs.Prelude.{◌≡◌, ℕ, ◌+◌, ◌-◌, ◌<◌, Bool, true, false, nat_lt, List, [], ◌∷◌, Option, Some, None}
 use Rattle.std.specs.FinMap.{FinMap}
 use Rattle.xo_object.specs.declared.transaction.Transaction.{Transaction}
 use Rattle.hk_lines.specs.declared.verdict.Verdict.{Verdict}
 use Rattle.hk_lines.specs.declared.verdict.Verdict.TheVariants.{Good, Bad}
 use Rattle.hk_lines.specs.declared.result_name.ResultName.{ResultName}
 use Rattle.hk_lines.specs.declared.result_name.ResultName.TheVariants.{TooLong, Unparsed, Malformed, BadSignature, NoAccount, PastSequence, FutureSequence, Early, Expired, FeeTooSmall, FeeUnfunded, Success}
+use Rattle.hk_ledger.specs.declared.reading.Reading.{Reading}
+use Rattle.hk_ledger.specs.declared.reading.Reading.TheVariants as reading
 use Rattle.hk_ledger.specs.declared.entry.Entry.{Entry}
 use Rattle.hk_ledger.specs.declared.ledger.Header.{Header}
 use Rattle.hk_ledger.specs.declared.holding.Holding.{Holding}
@@ -14,13 +16,6 @@ use Rattle.hk_ledger.specs.Holdings.{holding_at, with_holding}
 use Rattle.hk_ledger.specs.Ledger.{LedgerValue}
 use Rattle.hk_ledger.specs.Rows.{first_row}
 use Rattle.hk_ledger.specs.Rules.{Rules, Effect, keeps, fails}
-
--- what the bytes of a transaction read as
-pub data Reading : Type 0 where
-  too_long : Reading
-  unparsed : Reading
-  malformed : Reading
-  reads : Transaction → Reading
 
 abbrev pub is_bad : Verdict → Bool
 is_bad Good = false
@@ -86,10 +81,15 @@ goes_on rules ledger t None = settled ledger t (rules ledger.header (paid ledger
 
 -- a transaction, by the verdict on its signature and by what its bytes read as
 abbrev pub applied : Rules → LedgerValue → Verdict → Reading → Applied
-applied rules ledger verdict too_long = refused ledger TooLong
-applied rules ledger verdict unparsed = refused ledger Unparsed
-applied rules ledger verdict malformed = refused ledger Malformed
-applied rules ledger verdict (reads t) = goes_on rules ledger t (first_row (refusal_rows ledger verdict t))
+applied rules ledger verdict reading.TooLong = refused ledger TooLong
+applied rules ledger verdict reading.Unparsed = refused ledger Unparsed
+applied rules ledger verdict reading.Malformed = refused ledger Malformed
+applied rules ledger verdict (reading.Transaction t) = goes_on rules ledger t (first_row (refusal_rows ledger verdict t))
+
+-- the next sequence fits
+abbrev pub IsCountable : Reading → Type 0
+IsCountable (reading.Transaction t) = t.sequence < 4294967295
+IsCountable other = Unit {0}
 
 -- the result and the ledger of an event
 pub record Ends (done : Applied) (name : ResultName) (now : LedgerValue) : Type 0 where

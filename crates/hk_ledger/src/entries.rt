@@ -1,10 +1,12 @@
 //! The map from keys to entries.
-ghost use Rattle.std.specs.Prelude.{◌≡◌, None, IfOk, OnErr, OnOk};
+ghost use Rattle.std.specs.Prelude.{◌≡◌, ◌++◌, None, IfOk, OnErr, OnOk};
 ghost use Rattle.std.specs.Option.{option_copied};
 ghost use Rattle.std.specs.FinMap as map;
+ghost use Rattle.hk_ledger.specs.Machine.{account_line, account_lines};
 
 use crate::{Entry, Key};
-use hk_base::NoMemory;
+use hk_base::{Items, NoMemory};
+use hk_lines::OutputLine;
 use std::alloc::{AllocError, Global};
 use std::collections::BTreeMap;
 use std::marker::Model;
@@ -76,4 +78,31 @@ impl Entries {
         }
         Ok(copied)
     }
+
+    /// The lines of all accounts, in the order of their ids.
+    pub fn account_lines(&self, alloc: Global) -> Result<Items<OutputLine>, NoMemory>
+        ensures lines { IfOk result (λ lines. lines ≡ account_lines (map.entries self.now)) }
+    {
+        let mut lines = Items::new(alloc);
+        for (key, entry) in self.kept.iter() {
+            push_line(&mut lines, key, entry)?;
+        }
+        Ok(lines)
+    }
+}
+
+// Adds the line of an account.
+fn push_line(lines: &mut Items<OutputLine>, key: &Key, entry: &Entry) -> Result<(), NoMemory>
+    ensures ok { OnOk result (lines.new ≡ lines.old ++ account_line key.now entry.now) }
+{
+    if let (Key::Account(id), Some(holding)) = (key, entry.holding()) {
+        lines.push(OutputLine::FinalAccount {
+            id: *id,
+            balance: holding.balance,
+            sequence: holding.sequence,
+            hooks: 0,
+            states: 0,
+        })?;
+    }
+    Ok(())
 }

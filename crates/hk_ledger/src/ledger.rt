@@ -1,13 +1,15 @@
 //! The ledger: entries, the header, and the numbers that go with them.
-ghost use Rattle.std.specs.Prelude.{◌≡◌, ◌+◌, ◌<◌, ◌^◌, OnErr, OnOk};
+ghost use Rattle.std.specs.Prelude.{◌≡◌, ◌+◌, ◌<◌, ◌^◌, IfOk, OnErr, OnOk};
 ghost use Rattle.std.specs.Option.{option_copied};
 ghost use Rattle.std.specs.FinMap as map;
 ghost use Rattle.hk_ledger.specs.Ledger.{LedgerValue, new_ledger, committed};
 ghost use Rattle.hk_ledger.specs.Holdings.{holding_at};
+ghost use Rattle.hk_ledger.specs.Machine.{account_lines};
 ghost use Rattle.hk_ledger.specs.World.{with_account};
 
 use crate::{Entries, Entry, Holding, Key, Overlay};
-use hk_base::{AccountId, Hash256, NoMemory};
+use hk_base::{AccountId, Hash256, Items, NoMemory};
+use hk_lines::OutputLine;
 use std::alloc::Global;
 use std::marker::Model;
 
@@ -70,6 +72,13 @@ impl Ledger {
             Some(entry) => entry.holding(),
             None => None,
         }
+    }
+
+    /// The lines of all accounts, in the order of their ids.
+    pub fn account_lines(&self, alloc: Global) -> Result<Items<OutputLine>, NoMemory>
+        ensures lines { IfOk result (λ lines. lines ≡ account_lines (map.entries self.now.entries)) }
+    {
+        self.entries.account_lines(alloc)
     }
 
     pub fn header(&self) -> Header

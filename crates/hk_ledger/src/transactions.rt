@@ -1,13 +1,13 @@
 //! Transactions: their results in order, and what each of them keeps.
-ghost use Rattle.std.specs.Prelude.{◌≡◌, ◌+◌, ◌<◌, ◌≤◌, IfOk, OnErr, OnOk};
+ghost use Rattle.std.specs.Prelude.{◌≡◌, ◌+◌, ◌<◌, ◌≤◌, IfOk, IsOk, OnErr, OnOk};
 ghost use Rattle.hk_ledger.specs.Conserved.{Taken};
 ghost use Rattle.hk_ledger.specs.Balances.{balances};
 ghost use Rattle.hk_ledger.specs.Reports.{Reports};
 ghost use Rattle.hk_ledger.specs.Rows.{first_row};
-ghost use Rattle.hk_ledger.specs.Transactions.{applied, reads, refusal_rows, account_rows, is_before, is_after, paid, settled, Ends};
+ghost use Rattle.hk_ledger.specs.Transactions.{applied, IsCountable, refusal_rows, account_rows, is_before, is_after, paid, settled, Ends};
 ghost use Rattle.hk_ledger.specs.Writes.{with_writes};
 
-use crate::{Done, Holding, Ledger, Overlay, Report, Transactor, World};
+use crate::{Done, Holding, Ledger, Overlay, Reading, Report, Transactor, World};
 use hk_base::NoMemory;
 use hk_lines::{ResultName, Verdict};
 use std::alloc::Global;
@@ -126,7 +126,7 @@ fn apply_read<T: Transactor>(
     transaction: &Transaction,
 ) -> Result<Report, NoMemory>
     requires sequence { transaction.now.sequence < 4294967295 }
-    ensures ok { IfOk result (λ report. Reports (applied T.rules world.old.ledger verdict (reads transaction.now)) world.old world.new report) }
+    ensures ok { IfOk result (λ report. Reports (applied T.rules world.old.ledger verdict (Reading.Transaction transaction.now)) world.old world.new report) }
     ensures err { OnErr result (world.new ≡ world.old) }
 {
     if let Some(name) = refusal(&world.ledger, verdict, transaction) {
@@ -134,4 +134,27 @@ fn apply_read<T: Transactor>(
     }
     let name = settle(alloc, &mut world.ledger, rules, transaction)?;
     Ok(Report::of(alloc, name, transaction.fee))
+}
+
+/// Applies a transaction, by what its bytes read as, under rules and with a verdict on its signature.
+///
+/// After a refusal for want of memory the world is as it was.
+pub fn apply_reading<T: Transactor>(
+    alloc: Global,
+    world: &mut World,
+    rules: &T,
+    verdict: Verdict,
+    reading: &Reading,
+) -> Result<Report, NoMemory>
+    requires sequence { IsCountable reading.now }
+    ensures ok { IfOk result (λ report. Reports (applied T.rules world.old.ledger verdict reading.now) world.old world.new report) }
+    ensures err { OnErr result (world.new ≡ world.old) }
+    ensures refused { (reading.now ≡ Reading.TooLong) → IsOk result }
+{
+    match reading {
+        Reading::TooLong => Ok(Report::of(alloc, ResultName::TooLong, 0)),
+        Reading::Unparsed => Ok(Report::of(alloc, ResultName::Unparsed, 0)),
+        Reading::Malformed => Ok(Report::of(alloc, ResultName::Malformed, 0)),
+        Reading::Transaction(transaction) => apply_read(alloc, world, rules, verdict, transaction),
+    }
 }

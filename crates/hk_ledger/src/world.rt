@@ -1,11 +1,13 @@
 //! A ledger under change, and the total that its accounts were opened with.
-ghost use Rattle.std.specs.Prelude.{◌≡◌, ◌+◌, ◌<◌, ◌≤◌, ◌↔◌, ℕ, None, Err, IsSome, OnErr, OnOk};
+ghost use Rattle.std.specs.Prelude.{◌≡◌, ◌+◌, ◌<◌, ◌≤◌, ◌↔◌, ℕ, None, Err, IfOk, IsSome, OnErr, OnOk};
 ghost use Rattle.hk_ledger.specs.Balances.{balances};
 ghost use Rattle.hk_ledger.specs.Holdings.{holding_at};
+ghost use Rattle.hk_ledger.specs.Machine.{final_lines};
 ghost use Rattle.hk_ledger.specs.World.{WorldValue, new_world, opened, with_header, most_drops};
 
 use crate::{Header, Holding, Ledger};
-use hk_base::{AccountId, Hash256};
+use hk_base::{AccountId, Hash256, Items, NoMemory};
+use hk_lines::OutputLine;
 use std::alloc::Global;
 use std::marker::Model;
 use thiserror::Error;
@@ -61,6 +63,20 @@ impl World {
         ensures conserved { balances self.now.ledger.entries + self.now.ledger.burnt ≡ self.now.opening }
     {
         &self.ledger
+    }
+
+    /// The lines at the end: each account, and the sums of the balances and of the burnt fees, which add up to the opening total.
+    pub fn final_lines(&self, alloc: Global) -> Result<Items<OutputLine>, NoMemory>
+        ensures lines { IfOk result (λ lines. lines ≡ final_lines self.now.ledger) }
+    {
+        let mut lines = self.ledger.account_lines(alloc)?;
+        let burnt = self.ledger.burnt();
+        lines.push(OutputLine::FinalTotal {
+            balances: self.opening - burnt,
+            burnt,
+        })?;
+        lines.push(OutputLine::Done)?;
+        Ok(lines)
     }
 }
 
