@@ -1,0 +1,1 @@
+use Rattle.hk_ledger.proofs.replay.Replay.account.Goals as goal

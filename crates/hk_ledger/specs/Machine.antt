@@ -1,0 +1,114 @@
+-- The ledger machine, line by line. This project's own.
+use Rattle.std.specs.Prelude.{◌≡◌, ℕ, ◌+◌, Bool, true, false, not, nat_lt, nat_le, List, [], ◌∷◌, ◌++◌, Option, Some, None, is_some, refl}
+use Rattle.std.specs.Coded.{Coded, code_by, coded×, coded_ℕ}
+use Rattle.std.specs.FinMap.{FinMap, entries}
+use Rattle.hk_base.specs.declared.ids.AccountId.{AccountId}
+use Rattle.hk_lines.specs.declared.input_line.InputLine.{InputLine}
+use Rattle.hk_lines.specs.declared.input_line.InputLine.TheVariants.{Account, Ledger, Tx, Hook, End}
+use Rattle.hk_lines.specs.declared.output_line.OutputLine.{OutputLine}
+use Rattle.hk_lines.specs.declared.output_line.OutputLine.TheVariants as printed
+use Rattle.hk_lines.specs.declared.rule.Rule.{Rule}
+use Rattle.hk_lines.specs.declared.rule.Rule.TheVariants.{BadWord, BadOrder, RepeatedAccount, Total}
+use Rattle.hk_lines.specs.declared.verdict.Verdict.{Verdict}
+use Rattle.hk_base.specs.declared.ids.Hash256.{Hash256}
+use Rattle.hk_ledger.specs.declared.reading.Reading.{Reading}
+use Rattle.hk_ledger.specs.declared.key.Key.{Key}
+use Rattle.hk_ledger.specs.declared.key.Key.TheVariants as key
+use Rattle.hk_ledger.specs.declared.entry.Entry.{Entry}
+use Rattle.hk_ledger.specs.declared.entry.Entry.TheVariants as entry
+use Rattle.hk_ledger.specs.declared.ledger.Header.{Header}
+use Rattle.hk_ledger.specs.declared.replay.Stepped.{Stepped}
+use Rattle.hk_ledger.specs.declared.replay.Stepped.TheVariants.{Goes, Ends, Breaks}
+use Rattle.hk_ledger.specs.Keys.{key_cmp}
+use Rattle.hk_ledger.specs.Holdings.{holding_at, with_holding}
+use Rattle.hk_ledger.specs.Balances.{balances}
+use Rattle.hk_ledger.specs.Ledger.{LedgerValue, new_ledger, coded_ledger}
+use Rattle.hk_ledger.specs.Rows.{first_row}
+use Rattle.hk_ledger.specs.Rules.{Rules}
+use Rattle.hk_ledger.specs.Transactions.{Applied, applied}
+use Rattle.hk_ledger.specs.World.{most_drops, with_account, with_header}
+
+-- a ledger, and how many transactions came before
+pub record State : Type 0 where
+  pub ledger : LedgerValue
+  pub count : ℕ
+
+abbrev pub coded_state : Coded State
+coded_state = code_by (LedgerValue × ℕ) (coded× coded_ledger coded_ℕ) (λ s. (s.ledger, s.count)) (λ p. record { ledger = p.0; count = p.1 }) (λ _. refl)
+
+abbrev pub start : State
+start = record { ledger = new_ledger; count = 0 }
+
+-- what a line does: the machine goes on or ends, with what is printed, or the line is wrong
+pub data Step : Type 0 where
+  goes : State → List OutputLine → Step
+  ends : List OutputLine → Step
+  breaks : Rule → Step
+
+abbrev pub is_opened : LedgerValue → Bool
+is_opened ledger = nat_lt 0 ledger.header.seq
+
+-- the balances with which accounts were opened
+abbrev pub opening_total : LedgerValue → ℕ
+opening_total ledger = balances ledger.entries + ledger.burnt
+
+abbrev pub account_rules : LedgerValue → AccountId → ℕ → List (Bool × Rule)
+account_rules ledger id balance =
+    (is_opened ledger, BadOrder)
+    ∷ (is_some (holding_at ledger.entries id), RepeatedAccount)
+    ∷ (nat_lt most_drops (opening_total ledger + balance), Total)
+    ∷ []
+
+abbrev pub ledger_rules : LedgerValue → ℕ → List (Bool × Rule)
+ledger_rules ledger seq = (nat_le seq ledger.header.seq, BadOrder) ∷ []
+
+abbrev pub tx_rules : LedgerValue → List (Bool × Rule)
+tx_rules ledger = (not (is_opened ledger), BadOrder) ∷ []
+
+abbrev pub unless_broken : Option Rule → Step → Step
+unless_broken None step = step
+unless_broken (Some rule) step = breaks rule
+
+-- a transaction is counted, and its line printed
+abbrev pub counted : ℕ → Applied → Step
+counted count done = goes (record { ledger = done.ledger; count = count + 1 }) (printed.Tx (count + 1) done.result done.fee ∷ [])
+
+-- at the end, an account's line
+abbrev pub account_line : Key → Entry → List OutputLine
+account_line (key.Account id) (entry.Account balance sequence) = printed.FinalAccount id balance sequence 0 0 ∷ []
+account_line other entry = []
+
+-- the lines of all accounts, in the order of their ids
+abbrev pub account_lines : List (Key × Entry) → List OutputLine
+account_lines [] = []
+account_lines (e ∷ es) = account_line e.0 e.1 ++ account_lines es
+
+abbrev pub final_lines : LedgerValue → List OutputLine
+final_lines ledger = account_lines (entries ledger.entries) ++ printed.FinalTotal (balances ledger.entries) ledger.burnt ∷ printed.Done ∷ []
+
+abbrev pub account_step : State → AccountId → ℕ → ℕ → Step
+account_step s id balance sequence =
+    unless_broken (first_row (account_rules s.ledger id balance)) (goes (record s { ledger = with_account s.ledger id balance sequence }) [])
+
+abbrev pub ledger_step : State → ℕ → ℕ → Hash256 → Step
+ledger_step s seq time last_hash =
+    unless_broken (first_row (ledger_rules s.ledger seq))
+      (goes (record s { ledger = with_header s.ledger (record { seq = seq; time = time; last_hash = last_hash }) }) (printed.Ledger seq ∷ []))
+
+abbrev pub tx_step : Rules → State → Verdict → Reading → Step
+tx_step rules s verdict reading = unless_broken (first_row (tx_rules s.ledger)) (counted s.count (applied rules s.ledger verdict reading))
+
+-- one line, by the rules for transactions and by what bytes read as; a `hook` line is no line of a replay
+abbrev pub step : Rules → (List ℕ → Reading) → State → InputLine → Step
+step rules reading s (Account id balance sequence) = account_step s id balance sequence
+step rules reading s (Ledger seq time last_hash) = ledger_step s seq time last_hash
+step rules reading s (Tx verdict blob) = tx_step rules s verdict (reading blob)
+step rules reading s (Hook code) = breaks BadWord
+step rules reading s End = ends (final_lines s.ledger)
+
+-- an answer is that step
+abbrev pub Steps : Step → State → Stepped → Type 0
+Steps (goes s lines) now (Goes shown) = (now ≡ s) × (shown ≡ lines)
+Steps (ends lines) now (Ends shown) = shown ≡ lines
+Steps (breaks rule) now (Breaks shown) = shown ≡ rule
+Steps other now shown = ⊥

@@ -1,0 +1,30 @@
+//! The ledger and what changes it: accounts, opened ledgers and transactions.
+#![tactic(auto)]
+
+mod entries;
+mod entry;
+mod holding;
+mod key;
+mod ledger;
+mod native;
+mod overlay;
+mod reading;
+mod replay;
+mod report;
+mod transactions;
+mod transactor;
+mod world;
+
+pub use entries::Entries;
+pub use entry::Entry;
+pub use holding::Holding;
+pub use key::Key;
+pub use ledger::{Header, Ledger};
+pub use native::Native;
+pub use overlay::Overlay;
+pub use reading::Reading;
+pub use replay::{Replay, Stepped};
+pub use report::Report;
+pub use transactions::apply_reading;
+pub use transactor::{Done, Transactor};
+pub use world::{OpenFault, World, open_account, open_ledger};

@@ -1,0 +1,119 @@
+//! A ledger under change, and the total that its accounts were opened with.
+ghost use Rattle.std.specs.Prelude.{◌≡◌, ◌+◌, ◌<◌, ◌≤◌, ◌↔◌, ℕ, None, Err, IfOk, IsSome, OnErr, OnOk};
+ghost use Rattle.hk_ledger.specs.Balances.{balances};
+ghost use Rattle.hk_ledger.specs.Holdings.{holding_at};
+ghost use Rattle.hk_ledger.specs.Machine.{final_lines};
+ghost use Rattle.hk_ledger.specs.World.{WorldValue, new_world, opened, with_header, most_drops};
+
+use crate::{Header, Holding, Ledger};
+use hk_base::{AccountId, Hash256, Items, NoMemory};
+use hk_lines::OutputLine;
+use std::alloc::Global;
+use std::marker::Model;
+use thiserror::Error;
+
+/// The most drops that all accounts of a ledger are opened with.
+const MOST_DROPS: u64 = 100_000_000_000_000_000;
+
+/// Why an account isn't opened.
+#[derive(Clone, Copy, Debug, PartialEq, Eq, Drop, Error)]
+pub enum OpenFault {
+    /// The ledger has an account of this id.
+    #[error("account repeated")]
+    Repeated,
+    /// The balances of all accounts would pass 100,000,000,000,000,000 drops.
+    #[error("total too large")]
+    Total,
+    #[error("no memory")]
+    NoMemory,
+}
+
+/// A ledger whose balances and burnt fees add up to the balances that its accounts were opened with.
+#[derive(Drop)]
+pub struct World {
+    pub(crate) ledger: Ledger,
+    opening: u64,
+}
+
+impl Model for World {
+    ghost use Rattle.hk_ledger.specs.World.{WorldValue, coded_world, IsWhole};
+
+    ghost Value = { WorldValue };
+
+    ghost coded = { coded_world };
+
+    ghost view = { λ w. record { ledger = w.ledger; opening = w.opening } };
+
+    ghost invariant = { λ w. IsWhole w.ledger w.opening };
+}
+
+impl World {
+    /// An empty ledger. It takes no memory.
+    pub fn new(alloc: Global) -> World
+        ensures new { result ≡ new_world }
+    {
+        World {
+            ledger: Ledger::new(alloc),
+            opening: 0,
+        }
+    }
+
+    pub fn ledger(&self) -> &Ledger
+        ensures ledger { result.now ≡ self.now.ledger }
+        ensures conserved { balances self.now.ledger.entries + self.now.ledger.burnt ≡ self.now.opening }
+    {
+        &self.ledger
+    }
+
+    /// The lines at the end: each account, and the sums of the balances and of the burnt fees, which add up to the opening total.
+    pub fn final_lines(&self, alloc: Global) -> Result<Items<OutputLine>, NoMemory>
+        ensures lines { IfOk result (λ lines. lines ≡ final_lines self.now.ledger) }
+    {
+        let mut lines = self.ledger.account_lines(alloc)?;
+        let burnt = self.ledger.burnt();
+        lines.push(OutputLine::FinalTotal {
+            balances: self.opening - burnt,
+            burnt,
+        })?;
+        lines.push(OutputLine::Done)?;
+        Ok(lines)
+    }
+}
+
+/// Opens an account with a balance in drops, and the sequence of its first transaction.
+///
+/// After a refusal the world is as it was.
+pub fn open_account(world: &mut World, id: &AccountId, balance: u64, sequence: u32) -> Result<(), OpenFault>
+    requires most { balance ≤ most_drops }
+    ensures ok { OnOk result (world.new ≡ opened world.old id.now balance sequence) }
+    ensures err { OnErr result (world.new ≡ world.old) }
+    ensures repeated { (result ≡ Err OpenFault.Repeated) ↔ IsSome (holding_at world.old.ledger.entries id.now) }
+    ensures total { (result ≡ Err OpenFault.Total) ↔ ((holding_at world.old.ledger.entries id.now ≡ None) × (most_drops < world.old.opening + balance)) }
+{
+    if world.ledger.holding(id).is_some() {
+        return Err(OpenFault::Repeated);
+    }
+    let opening = world.opening + balance;
+    if opening > MOST_DROPS {
+        return Err(OpenFault::Total);
+    }
+    match world.ledger.open(id, Holding { balance, sequence }) {
+        Ok(()) => {
+            world.opening = opening;
+            Ok(())
+        }
+        Err(_) => Err(OpenFault::NoMemory),
+    }
+}
+
+/// Opens a ledger: sets the header, and changes nothing else. It takes no memory.
+pub fn open_ledger(world: &mut World, seq: u32, time: u32, last_hash: &Hash256)
+    ensures opened { world.new ≡ record world.old { ledger = with_header world.old.ledger (record { seq = seq; time = time; last_hash = last_hash.now }) } }
+{
+    let header = Header {
+        seq,
+        time,
+        last_hash: *last_hash,
+    };
+    world.ledger.set_header(header);
+}
