@@ -36,8 +36,14 @@ fn run(rt: &impl Abort, alloc: Global, instructions: &[u8]) -> Option<(bool, i64
 #[test]
 fn worked_rows(rt: HostRuntime) {
     let alloc = rt.alloc();
-    assert_eq!(rt; run(&rt, alloc, &[0x41, 0, 0x41, 0, 0x42, 0, 0x10, 0, 0x0b]), Some((true, 0, 4, 5)));
-    assert_eq!(rt; run(&rt, alloc, &[0x41, 1, 0x41, 0, 0x42, 0, 0x10, 0, 0x0b]), Some((false, -1, 5, 5)));
+    assert_eq!(rt;
+        run(&rt, alloc, &[0x41, 0, 0x41, 0, 0x42, 0, 0x10, 0, 0x0b]),
+        Some((true, 0, 4, 5))
+    );
+    assert_eq!(rt;
+        run(&rt, alloc, &[0x41, 1, 0x41, 0, 0x42, 0, 0x10, 0, 0x0b]),
+        Some((false, -1, 5, 5))
+    );
     assert_eq!(rt; run(&rt, alloc, &[0x41, 0, 0x0b]), None);
 }
 
@@ -45,12 +51,27 @@ fn worked_rows(rt: HostRuntime) {
 fn constants_and_calls(rt: HostRuntime) {
     let alloc = rt.alloc();
     // -64 and 63 are the least and the greatest number of one byte.
-    assert_eq!(rt; run(&rt, alloc, &[0x42, 0x40, 0x0b]), Some((false, -64, 2, 2)));
-    assert_eq!(rt; run(&rt, alloc, &[0x42, 0x3f, 0x0b]), Some((false, 63, 2, 2)));
-    assert_eq!(rt; run(&rt, alloc, &[0x41, 0x7f, 0x1a, 0x42, 0x7f, 0x0b]), Some((false, -1, 4, 4)));
-    assert_eq!(rt; run(&rt, alloc, &[0x41, 0, 0x41, 0, 0x42, 0x7f, 0x10, 0, 0x0b]), Some((true, -1, 4, 5)));
+    assert_eq!(rt;
+        run(&rt, alloc, &[0x42, 0x40, 0x0b]),
+        Some((false, -64, 2, 2))
+    );
+    assert_eq!(rt;
+        run(&rt, alloc, &[0x42, 0x3f, 0x0b]),
+        Some((false, 63, 2, 2))
+    );
+    assert_eq!(rt;
+        run(&rt, alloc, &[0x41, 0x7f, 0x1a, 0x42, 0x7f, 0x0b]),
+        Some((false, -1, 4, 4))
+    );
+    assert_eq!(rt;
+        run(&rt, alloc, &[0x41, 0, 0x41, 0, 0x42, 0x7f, 0x10, 0, 0x0b]),
+        Some((true, -1, 4, 5))
+    );
     // A size of -1 is 4,294,967,295 bytes.
-    assert_eq!(rt; run(&rt, alloc, &[0x41, 0, 0x41, 0x7f, 0x42, 0, 0x10, 0, 0x0b]), Some((false, -1, 5, 5)));
+    assert_eq!(rt;
+        run(&rt, alloc, &[0x41, 0, 0x41, 0x7f, 0x42, 0, 0x10, 0, 0x0b]),
+        Some((false, -1, 5, 5))
+    );
 }
 
 #[test]
@@ -63,8 +84,14 @@ fn what_is_not_taken(rt: HostRuntime) {
     assert_eq!(rt; run(&rt, alloc, &[0x42, 0, 0x0b, 0x0b]), None);
     assert_eq!(rt; run(&rt, alloc, &[0x42, 0x80, 0x0b]), None);
     assert_eq!(rt; run(&rt, alloc, &[0x42, 0]), None);
-    assert_eq!(rt; run(&rt, alloc, &[0x41, 0, 0x42, 0, 0x41, 0, 0x10, 0, 0x0b]), None);
-    assert_eq!(rt; run(&rt, alloc, &[0x41, 0, 0x41, 0, 0x42, 0, 0x10, 1, 0x0b]), None);
+    assert_eq!(rt;
+        run(&rt, alloc, &[0x41, 0, 0x42, 0, 0x41, 0, 0x10, 0, 0x0b]),
+        None
+    );
+    assert_eq!(rt;
+        run(&rt, alloc, &[0x41, 0, 0x41, 0, 0x42, 0, 0x10, 1, 0x0b]),
+        None
+    );
     assert_eq!(rt; run(&rt, alloc, &[0x01, 0x42, 0, 0x0b]), None);
 }
 
