@@ -12,6 +12,8 @@ use Rattle.hk_lines.specs.declared.rule.Rule.TheVariants.{LineTooLong}
 use Rattle.hk_lines.specs.declared.status.Status.{Status}
 use Rattle.hk_lines.proofs.CutLemmas.{cut_joined, begun_joined, begun_nothing, joined_joined, trim_length}
 use Rattle.hk_lines.proofs.Due.{endless}
+use Rattle.std.specs.Io.KnownBytes.{Appends}
+use Rattle.hk_loop.specs.Answers.{WroteFront}
 use Rattle.hk_loop.specs.Turned.{led}
 
 -- held bytes and what comes behind them, where so many bytes of a piece are taken
@@ -19,11 +21,11 @@ fed : (held piece now : List ℕ) (count : ℕ) (more : Cut) → cut held ≡ be
     begun held (joined (cut piece) more) ≡ joined (cut now) (joined (cut (drop count piece)) more)
 fed held piece now count more uncut_held is =
     let parts : held ++ piece ≡ now ++ drop count piece =
-        ap (λ p. held ++ p) (sym (take-append-drop count piece))
-        ∙ sym (append_assoc held (take count piece) (drop count piece))
-        ∙ ap (λ n. n ++ drop count piece) (sym is) in
+    ap (λ p. held ++ p) (sym (take-append-drop count piece))
+    ∙ sym (append_assoc held (take count piece) (drop count piece))
+    ∙ ap (λ n. n ++ drop count piece) (sym is) in
     let all : begun held (cut piece) ≡ joined (cut now) (cut (drop count piece)) =
-        sym (cut_joined held piece ∙ ap (λ c. joined c (cut piece)) uncut_held) ∙ ap cut parts ∙ cut_joined now (drop count piece) in
+    sym (cut_joined held piece ∙ ap (λ c. joined c (cut piece)) uncut_held) ∙ ap cut parts ∙ cut_joined now (drop count piece) in
     begun_joined held (cut piece) more
     ∙ ap (λ c. joined c more) all
     ∙ joined_joined (cut now) (cut (drop count piece)) more
@@ -36,7 +38,7 @@ module _ {S : Type 0} (turn : S → List ℕ → Turn S) where
       ≡ after out (given_from turn state number (begun now (joined (cut (drop count piece)) more)) close)
   part_unready state number held piece now count out uncut_held is uncut_now more close =
       ap (λ c. after out (given_from turn state number c close))
-        (fed held piece now count more uncut_held is ∙ ap (λ c. joined c (joined (cut (drop count piece)) more)) uncut_now)
+      (fed held piece now count more uncut_held is ∙ ap (λ c. joined c (joined (cut (drop count piece)) more)) uncut_now)
 
   -- what a line that was taken gives
   pub record Takes (state : S) (number : ℕ) (shown : CutLine) (out : List ℕ) (stop : Option Status) (next : S) (later : List ℕ) : Type 0 where
@@ -59,7 +61,7 @@ module _ {S : Type 0} (turn : S → List ℕ → Turn S) where
   part_ready state next number held piece now count out later shown stop uncut_held is (inl (line, cuts, shows)) takes more close =
       let rest : Cut = joined (cut (drop count piece)) more in
       ap (λ c. after out (given_from turn state number c close))
-        (fed held piece now count more uncut_held is ∙ ap (λ c. joined c rest) cuts.0)
+      (fed held piece now count more uncut_held is ∙ ap (λ c. joined c rest) cuts.0)
       ∙ takes.given line shows (λ s. given_from turn s (number + 1) (begun [] rest) close)
   part_ready state next number held piece now count out later shown stop uncut_held is (inr (all, too_long)) takes more close =
       let rest : Cut = joined (cut (drop count piece)) more in
@@ -70,7 +72,7 @@ module _ {S : Type 0} (turn : S → List ℕ → Turn S) where
       let goes : S → Given = λ s. given_from turn s (number + 1) (begun [] rest) close in
       let reached : endless_line ≤ length now = omega (arith, size) in
       ap (λ c. after out (given_from turn state number c close))
-        (fed held piece now count more uncut_held is ∙ ap (λ c. joined c rest) all.0)
+      (fed held piece now count more uncut_held is ∙ ap (λ c. joined c rest) all.0)
       ∙ ap (after out) (endless turn state number now rest close reached ∙ sym (too_long_line state number now goes long))
       ∙ takes.given now shows goes
 
@@ -89,3 +91,17 @@ module _ {S : Type 0} (turn : S → List ℕ → Turn S) where
       leads.given more close
       ∙ ap (λ p. after out' (given_from turn state' number' (begun held' (joined (cut p) more)) close)) none
       ∙ ap (λ c. after out' (given_from turn state' number' (begun held' c) close)) (begun_nothing more)
+
+-- the front of what was printed is the front of what is given, where the command goes on
+pub front_of_more : (given later : Given) (start out : List ℕ) (stop : Option Status) (before now : Option (List ℕ)) → start ≡ [] →
+    stop ≡ None → after start given ≡ led stop out later →
+    (front : List ℕ) × (more : List ℕ) × (out ≡ front ++ more) × Appends before now front → WroteFront given.text before now
+front_of_more given later start out stop before now nothing goes is (front, more, split, wrote) =
+    let all : given.text ≡ out ++ later.text =
+    sym (ap (λ s. s ++ given.text) nothing) ∙ ap (λ g. g.text) (is ∙ ap (λ s. led s out later) goes) in
+    record {
+      front = front;
+      more = more ++ later.text;
+      whole = all ∙ ap (λ o. o ++ later.text) split ∙ append_assoc front more later.text;
+      wrote = wrote;
+    }

@@ -1,4 +1,7 @@
 -- Statuses that are answers to the input, and no accidents.
+use Rattle.std.specs.Prelude.{◌≡◌, ◌++◌, ℕ, List, Option, Some}
+use Rattle.std.specs.Io.KnownBytes.{Appends}
+use Rattle.hk_lines.specs.Given.{Given}
 use Rattle.hk_lines.specs.declared.status.Status.{Status}
 use Rattle.hk_lines.specs.declared.status.Status.TheVariants.{Done, Usage, BadInput, ReadFault, WriteFault, NoMemory, HookRefused, TooLong}
 
@@ -11,3 +14,15 @@ IsAnswer TooLong = Unit {0}
 IsAnswer ReadFault = ⊥
 IsAnswer WriteFault = ⊥
 IsAnswer NoMemory = ⊥
+
+-- the front of a text was written
+pub record WroteFront (text : List ℕ) (before now : Option (List ℕ)) : Type 0 where
+  pub front : List ℕ
+  pub more : List ℕ
+  pub whole : text ≡ front ++ more
+  pub wrote : Appends before now front
+
+-- the text of what is given was written, and the status is its status
+pub record Gave (given : Given) (status : Status) (before now : Option (List ℕ)) : Type 0 where
+  pub wrote : Appends before now given.text
+  pub ended : given.status ≡ Some status

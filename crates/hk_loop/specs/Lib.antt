@@ -1,2 +1,3 @@
 pub mod Answers
 pub mod Turned
+pub mod Going

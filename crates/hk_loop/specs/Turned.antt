@@ -1,6 +1,8 @@
 -- What the body of a command did with a line (this project's own).
 use Rattle.std.specs.Prelude.{◌≡◌, ◌++◌, ℕ, List, Option, Some, None}
-use Rattle.hk_lines.specs.Given.{Given, after, Turn, goes, ends, wrong}
+use Rattle.std.specs.Io.KnownBytes.{Appends}
+use Rattle.hk_lines.specs.Cut.{Cut, cut, begun, joined}
+use Rattle.hk_lines.specs.Given.{Close, Given, after, Turn, goes, ends, wrong, given_from}
 use Rattle.hk_lines.specs.declared.status.Status.{Status}
 use Rattle.hk_loop.specs.Answers.{IsAnswer}
 use Rattle.hk_loop.specs.declared.command.Turned.{Turned}
@@ -22,3 +24,10 @@ led (Some status) text more = record { text = text; status = Some status }
 abbrev pub StopsWell : Option Status → Type 0
 StopsWell None = Unit {0}
 StopsWell (Some status) = IsAnswer status
+
+-- a piece was taken and its text written: what is given from before it is that text, and what is given from there on, whatever comes behind
+pub record Went {S : Type 0} (turn : S → List ℕ → Turn S) (state : S) (number : ℕ) (held piece : List ℕ) (before : Option (List ℕ)) (next : S) (number' : ℕ) (held' : List ℕ) (now : Option (List ℕ)) : Type 0 where
+  pub text : List ℕ
+  pub wrote : Appends before now text
+  pub given : (more : Cut) (close : Close) →
+      given_from turn state number (begun held (joined (cut piece) more)) close ≡ after text (given_from turn next number' (begun held' more) close)

@@ -1,13 +1,16 @@
 //! One piece is taken.
-ghost use Rattle.std.specs.Prelude.{◌≡◌, ◌+◌, ◌<◌, ◌≤◌, ◌^◌, length, drop, IfOk};
-ghost use Rattle.hk_lines.specs.Cut.{Cut, cut, begun, joined};
+ghost use Rattle.std.specs.Prelude.{◌≡◌, ◌≢◌, ◌+◌, ◌<◌, ◌≤◌, ◌^◌, length, drop, IfOk, IfErr, OnOk};
+ghost use Rattle.hk_base.specs.Outside.{Rose};
+ghost use Rattle.hk_lines.specs.Cut.{Cut, behind, cut, begun, joined};
 ghost use Rattle.hk_lines.specs.Cutting.{IsUnfinished};
-ghost use Rattle.hk_lines.specs.Given.{Close, after, given_from};
-ghost use Rattle.hk_loop.specs.Turned.{led, StopsWell};
+ghost use Rattle.hk_lines.specs.Given.{Close, ended, after, given_from};
+ghost use Rattle.hk_loop.specs.Answers.{IsAnswer, WroteFront, Gave};
+ghost use Rattle.hk_loop.specs.Turned.{Went, led, StopsWell};
 
 use crate::Command;
-use crate::taking::take_line;
-use hk_base::NoMemory;
+use crate::taking::{take_line, take_rest};
+use crate::writing::{write_all, write_answer};
+use hk_base::{NoMemory, Sink, SinkStop};
 use hk_lines::{Cutter, Status};
 use std::alloc::Global;
 
@@ -16,6 +19,74 @@ use std::alloc::Global;
 pub(crate) struct Part {
     pub(crate) count: usize,
     pub(crate) stop: Option<Status>,
+}
+
+/// Takes a piece and writes what its lines print. An error is the status where the command ends or what stopped it.
+pub fn write_piece<C: Command, K: Sink>(
+    alloc: Global,
+    command: &mut C,
+    cutter: &mut Cutter,
+    number: &mut u64,
+    piece: &[u8],
+    sink: &mut K,
+) -> Result<(), Status>
+    requires unfinished { IsUnfinished cutter.old }
+    requires fits { number.old + length piece.now < 2 ^ 63 }
+
+    // The command goes on, and what was written is what the piece gives before what comes behind it.
+    ensures goes { OnOk result (Went C.turn command.old number.old cutter.old piece.now (K.written sink.old)
+        command.new number.new cutter.new (K.written sink.new)) }
+    ensures unfinished { OnOk result (IsUnfinished cutter.new) }
+    ensures number { OnOk result (number.new ≤ number.old + length piece.now) }
+
+    // The command ended, and what was written is all that is given, whatever comes behind the piece.
+    ensures answered { IfErr result (λ status. IsAnswer status → (more : Cut) (close : Close) →
+        Gave (given_from C.turn command.old number.old (begun cutter.old (joined (cut piece.now) more)) close) status
+        (K.written sink.old) (K.written sink.new)) }
+
+    // After a fault or want of memory what was written is the front of what is given.
+    ensures stopped { IfErr result (λ status. ¬ IsAnswer status → (more : Cut) (close : Close) →
+        WroteFront (given_from C.turn command.old number.old (begun cutter.old (joined (cut piece.now) more)) close).text
+        (K.written sink.old) (K.written sink.new)) }
+    ensures no_read_fault { IfErr result (λ status. status ≢ Status.ReadFault) }
+    ensures write_fault { IfErr result (λ status. status ≡ Status.WriteFault → Rose (K.faults sink.old) (K.faults sink.new)) }
+    ensures later { K.faults sink.old ≤ K.faults sink.new }
+{
+    let mut out = Vec::new(alloc);
+    match take_piece(alloc, command, cutter, number, piece, &mut out) {
+        Err(_) => Err(Status::NoMemory),
+        Ok(None) => match write_all(sink, &out) {
+            Ok(()) => Ok(()),
+            Err(SinkStop::Failed) => Err(Status::WriteFault),
+            Err(SinkStop::NoMemory) => Err(Status::NoMemory),
+        },
+        Ok(Some(status)) => Err(write_answer(sink, &out, status)),
+    }
+}
+
+/// Takes what is left at the end of the input and writes what it prints. The answer is the status of all, or what stopped it.
+pub fn take_end<C: Command, K: Sink>(
+    alloc: Global,
+    command: &mut C,
+    cutter: &Cutter,
+    number: u64,
+    sink: &mut K,
+) -> Status
+    requires unfinished { IsUnfinished cutter.now }
+    requires fits { number < 2 ^ 63 }
+    ensures answered { IsAnswer result →
+        Gave (given_from C.turn command.old number (behind cutter.now) ended) result (K.written sink.old) (K.written sink.new) }
+    ensures stopped { ¬ IsAnswer result →
+        WroteFront (given_from C.turn command.old number (behind cutter.now) ended).text (K.written sink.old) (K.written sink.new) }
+    ensures no_read_fault { result ≢ Status.ReadFault }
+    ensures write_fault { result ≡ Status.WriteFault → Rose (K.faults sink.old) (K.faults sink.new) }
+    ensures later { K.faults sink.old ≤ K.faults sink.new }
+{
+    let mut out = Vec::new(alloc);
+    match take_rest(alloc, command, number, cutter, &mut out) {
+        Ok(status) => write_answer(sink, &out, status),
+        Err(_) => Status::NoMemory,
+    }
 }
 
 /// Takes a piece and appends what its lines print. The answer is the status where the command ends.

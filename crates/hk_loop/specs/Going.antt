@@ -1,0 +1,43 @@
+-- What one read does to a command, its source and its sink (this project's own).
+use Rattle.std.specs.Prelude.{◌≡◌, ◌≤◌, ◌<◌, ◌+◌, ◌⊎◌, ℕ, List, [], length, Option}
+use Rattle.std.specs.Io.KnownBytes.{Consumes, IsAtEnd}
+use Rattle.hk_lines.specs.Cut.{Cut, behind, cut, begun, joined}
+use Rattle.hk_lines.specs.Cutting.{IsUnfinished}
+use Rattle.hk_lines.specs.Given.{Close, ended, Turn, given_from}
+use Rattle.hk_lines.specs.declared.status.Status.{Status}
+use Rattle.hk_loop.specs.Answers.{IsAnswer, WroteFront, Gave}
+use Rattle.hk_loop.specs.Turned.{Went}
+
+-- so many bytes were taken, and what they give was written
+pub record GoesOn {S : Type 0} (turn : S → List ℕ → Turn S) (count room : ℕ) (state : S) (number : ℕ) (held : List ℕ) (left before : Option (List ℕ)) (next : S) (number' : ℕ) (held' : List ℕ) (left' now : Option (List ℕ)) : Type 0 where
+  pub taken : List ℕ
+  pub consumed : Consumes left left' taken
+  pub size : length taken ≡ count
+  pub some : 0 < count
+  pub most : count ≤ room
+  pub few : count ≤ 65536
+  pub unfinished : IsUnfinished held'
+  pub number_grows : number' ≤ number + count
+  pub went : Went turn state number held taken before next number' held' now
+
+-- the input ended: all that it gives was written, or its front
+pub record EndsAt {S : Type 0} (turn : S → List ℕ → Turn S) (status : Status) (state : S) (number : ℕ) (held taken : List ℕ) (left' before now : Option (List ℕ)) : Type 0 where
+  pub nothing : taken ≡ []
+  pub at_end : IsAtEnd left'
+  pub answered : IsAnswer status → Gave (given_from turn state number (behind held) ended) status before now
+  pub stopped : (IsAnswer status → ⊥) → WroteFront (given_from turn state number (behind held) ended).text before now
+
+-- a piece ended the command: all that is given was written, whatever comes behind, or its front
+pub record BreaksAt {S : Type 0} (turn : S → List ℕ → Turn S) (status : Status) (state : S) (number : ℕ) (held taken : List ℕ) (before now : Option (List ℕ)) : Type 0 where
+  pub answered : IsAnswer status → (more : Cut) (close : Close) →
+      Gave (given_from turn state number (begun held (joined (cut taken) more)) close) status before now
+  pub stopped : (IsAnswer status → ⊥) → (more : Cut) (close : Close) →
+      WroteFront (given_from turn state number (begun held (joined (cut taken) more)) close).text before now
+
+-- bytes were taken, and there it stopped
+pub record StopsAt {S : Type 0} (turn : S → List ℕ → Turn S) (status : Status) (room : ℕ) (state : S) (number : ℕ) (held : List ℕ) (left before left' now : Option (List ℕ)) : Type 0 where
+  pub taken : List ℕ
+  pub consumed : Consumes left left' taken
+  pub most : length taken ≤ room
+  pub few : length taken ≤ 65536
+  pub why : EndsAt turn status state number held taken left' before now ⊎ BreaksAt turn status state number held taken before now
