@@ -147,3 +147,14 @@ pub whole_read : {T : Type 0} (f : FieldId) (Is : List Item → T → Type 0) (l
 whole_read f Is limit bytes spans i ys array few past h =
     record { elements = items_of bytes spans; array = array; few = omega (arith, length-map spans (item_of bytes));
       each = subst (λ xs. Each (IsElement f Is) (items_of bytes xs) ys) (take_all i spans past) h }
+
+each-length : {T : Type 0} (R : Item → T → Type 0) (xs : List Item) (ys : List T) → Each R xs ys → length xs ≡ length ys
+each-length R [] [] h = refl
+each-length R [] (y ∷ ys) h = absurd h
+each-length R (x ∷ xs) [] h = absurd h
+each-length R (x ∷ xs) (y ∷ ys) h = ap suc (each-length R xs ys h.1)
+
+pub as_many : {T : Type 0} (one : OneReading) (f : FieldId) (Is : List Item → T → Type 0) (limit : ℕ) (bytes : List ℕ) (spans : List (FieldId × Span)) → IsArray (items_of bytes spans) bytes → (ys : List T) → AreElements f Is limit bytes ys →
+    length spans ≡ length ys
+as_many one f Is limit bytes spans array ys r =
+    sym (length-map spans (item_of bytes)) ∙ each-length (IsElement f Is) (items_of bytes spans) ys (these one f Is limit bytes spans array ys r)

@@ -280,7 +280,8 @@ fn update_of(alloc: Global, object: &Object) -> Result<HookItem, TransactionFaul
     Ok(HookItem::Update { on, namespace, parameters, grants })
 }
 
-fn parameters_or_none(alloc: Global, given: Option<Items<Parameter>>) -> Items<Parameter>
+/// The parameters that were given, or none.
+pub fn parameters_or_none(alloc: Global, given: Option<Items<Parameter>>) -> Items<Parameter>
     ensures parameters { result ≡ or_empty given }
 {
     match given {

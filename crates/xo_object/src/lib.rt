@@ -12,6 +12,7 @@ mod object;
 mod reading;
 mod skip;
 mod span;
+mod transact;
 mod transaction;
 
 pub use builder::{ObjectBuilder, PutFault};
@@ -23,4 +24,5 @@ pub use object::{Object, collect, read_elements, read_object};
 pub use reading::TransactionFault;
 pub use skip::{Place, Skipped, skip_fields, skip_value};
 pub use span::Span;
+pub use transact::read_transaction;
 pub use transaction::{Grant, HookItem, Parameter, Transaction, copy_parameters};
