@@ -7,3 +7,4 @@ pub mod Collecting
 pub mod Walk
 pub mod Building
 pub mod Values
+pub mod Elements

@@ -9,7 +9,9 @@ use Rattle.xo_fields.specs.Amount.{IsAmount, AmountGives, IsValid, amount_bytes}
 use Rattle.xo_fields.specs.Field.{number}
 use Rattle.xo_fields.specs.Laws.{OneAmount}
 use Rattle.xo_fields.specs.Spelling.{Begins}
-use Rattle.xo_object.specs.Transaction.{IsAmountOf}
+use Rattle.hk_base.specs.declared.ids.AccountId.{AccountId}
+use Rattle.std.specs.Option.{option_map}
+use Rattle.xo_object.specs.Transaction.{IsAmountOf, PaymentIs}
 use Rattle.std.proofs.lemmas.List.{take-append-drop}
 use Rattle.xo_fields.specs.Form.{form_at}
 use Rattle.xo_object.specs.declared.fault.ObjectFault.{ObjectFault}
@@ -21,6 +23,12 @@ use Rattle.xo_object.specs.List.{ListFits}
 use Rattle.xo_object.specs.Value.{IsValue, IsObject, HasFields}
 use Rattle.xo_object.proofs.ListLemmas.{listed}
 use Rattle.xo_object.proofs.Parts.{asks_less}
+
+abbrev pub account_id : List ℕ → AccountId
+account_id bytes = record { 0 = bytes }
+
+none_some : (v : List ℕ) → None ≡ Some v → ⊥
+none_some v e = cc
 
 some_same : (form other : Form) → Some form ≡ Some other → form ≡ other
 some_same form other e = cc
@@ -68,3 +76,26 @@ amount_begins value is = (value, [], is, sym (append-nil value))
 
 pub given_amount : (found : Option (List ℕ)) (value : List ℕ) (a : Amount) → found ≡ Some value → IsValid a × (value ≡ amount_bytes a) → IsAmountOf found (Some a)
 given_amount found value a e h = subst (λ o. IsAmountOf o (Some a)) (sym e) h
+
+-- what a field says is one account, and one amount
+pub same_account : (a b : Option AccountId) (found : Option (List ℕ)) → found ≡ option_map (λ (x : AccountId). x.0) a → found ≡ option_map (λ (x : AccountId). x.0) b → a ≡ b
+same_account None None found h k = refl
+same_account None (Some y) found h k = absurd (none_some y.0 (sym h ∙ k))
+same_account (Some x) None found h k = absurd (none_some x.0 (sym k ∙ h))
+same_account (Some x) (Some y) found h k = ap (λ bytes. Some (account_id bytes)) (value_same x.0 y.0 (sym h ∙ k))
+
+pub same_amount : OneAmount → (found : Option (List ℕ)) (a b : Option Amount) → IsAmountOf found a → IsAmountOf found b → a ≡ b
+same_amount one None None None h k = refl
+same_amount one None None (Some b) h k = absurd k
+same_amount one None (Some a) b h k = absurd h
+same_amount one (Some v) None b h k = absurd h
+same_amount one (Some v) (Some a) None h k = absurd k
+same_amount one (Some v) (Some a) (Some b) h k =
+    let same : (a ≡ b) × ([] ≡ []) = one a b [] [] h.0 k.0 (append-nil (amount_bytes a) ∙ sym h.1 ∙ k.1 ∙ sym (append-nil (amount_bytes b))) in ap Some same.0
+
+pub number_same : (found : Option ℕ) (m n : ℕ) → found ≡ Some m → found ≡ Some n → m ≡ n
+number_same found m n h k = let e : Some m ≡ Some n = sym h ∙ k in cc
+
+pub paid_same : (kind other : ℕ) (a b : Option AccountId) (x y : Option Amount) → kind ≡ other → a ≡ b → x ≡ y → PaymentIs other b y → PaymentIs kind a x
+paid_same kind other a b x y k e f h =
+    subst (λ n. PaymentIs n a x) (sym k) (subst (λ c. PaymentIs other c x) (sym e) (subst (λ z. PaymentIs other b z) (sym f) h))

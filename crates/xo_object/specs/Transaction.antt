@@ -222,15 +222,18 @@ abbrev pub AreHooks : List ℕ → List HookItem → Type 0
 AreHooks bytes items = AreElements names.hook HookIs 10 bytes items × (1 ≤ length items)
 
 -- what an emission says of itself, and no more
-pub record DetailsAre (bytes : List ℕ) (generation burden : ℕ) : Type 0 where
-  pub fields : List Item
-  pub object : IsObject fields bytes
+pub record DetailsIn (fields : List Item) (generation burden : ℕ) : Type 0 where
   pub others : IsTrue (only (names.emit_generation ∷ names.emit_burden ∷ names.emit_parent ∷ names.emit_nonce ∷ names.emit_hook_hash ∷ names.emit_callback ∷ []) fields)
   pub generation_is : number32 names.emit_generation fields ≡ Some generation
   pub burden_is : number64 names.emit_burden fields ≡ Some burden
   pub parent : IsSome (lookup names.emit_parent fields)
   pub nonce : IsSome (lookup names.emit_nonce fields)
   pub hook : IsSome (lookup names.emit_hook_hash fields)
+
+pub record DetailsAre (bytes : List ℕ) (generation burden : ℕ) : Type 0 where
+  pub fields : List Item
+  pub object : IsObject fields bytes
+  pub is : DetailsIn fields generation burden
 
 abbrev pub EmissionIs : Bool → Option (List ℕ) → ℕ → ℕ → ℕ → Type 0
 EmissionIs false None sequence generation burden = (0 < sequence) × (sequence < 4294967295) × (generation ≡ 0) × (burden ≡ 1)
@@ -248,14 +251,18 @@ PaymentIs kind None amount = kind ≡ 0 → ⊥
 PaymentIs kind (Some account) None = kind ≡ 0 → ⊥
 PaymentIs kind (Some account) (Some amount) = kind ≡ 0 → IsPositive amount
 
--- the items of type 22, and none of another type
+-- the items of a change of hooks
+abbrev pub GivenHooks : Option (List ℕ) → List HookItem → Type 0
+GivenHooks None items = ⊥
+GivenHooks (Some bytes) items = AreHooks bytes items
+
+-- those of type 22, and none of another type
+abbrev pub HooksFor : Bool → Option (List ℕ) → List HookItem → Type 0
+HooksFor false bytes items = items ≡ []
+HooksFor true bytes items = GivenHooks bytes items
+
 abbrev pub HooksAre : ℕ → Option (List ℕ) → List HookItem → Type 0
-HooksAre kind bytes items = if_set (kind == 22) bytes items
-  where
-    if_set : Bool → Option (List ℕ) → List HookItem → Type 0
-    if_set false bytes items = items ≡ []
-    if_set true None items = ⊥
-    if_set true (Some bytes) items = AreHooks bytes items
+HooksAre kind bytes items = HooksFor (kind == 22) bytes items
 
 -- a transaction
 pub record IsTransaction (fields : List Item) (bytes : List ℕ) (emitted : Bool) (t : Transaction) : Type 0 where

@@ -1,0 +1,263 @@
+//! Transactions of objects.
+ghost use Rattle.std.specs.Prelude.{◌≡◌, ◌<◌, ◌||◌, ◌==◌, ◌↔◌, ℕ, List, Err, IfOk, IfSome, IfNone, IsTrue, is_some, Some, None};
+ghost use Rattle.xo_fields.specs.declared.amount.Amount.TheVariants.{Native};
+ghost use Rattle.xo_object.specs.declared.transaction.HookItem.{HookItem};
+ghost use Rattle.xo_object.specs.declared.transaction.Transaction.{Transaction};
+ghost use Rattle.xo_object.specs.Item.{lookup};
+ghost use Rattle.xo_object.specs.Names.{transaction_type, fee, hooks, emit_details};
+ghost use Rattle.xo_object.specs.Span.{items};
+ghost use Rattle.xo_object.specs.Transaction.{IsTransaction, IsAmountOf, IsPositive, PaymentIs, HooksAre, EmissionIs, DetailsAre, DetailsIn, number16};
+
+use crate::hooks::{parameters_or_none, read_hooks};
+use crate::laws::one_reading;
+use crate::lists::{copied, given_parameters};
+use crate::object::Object;
+use crate::reading::{TransactionFault, account_at, amount_at, has_only, nested_object, number16_at, number32_at, number64_at};
+use crate::transaction::{HookItem, Transaction};
+use hk_base::{AccountId, Items, tx_id};
+use std::alloc::Global;
+use xo_fields::{Amount, FieldId, one_amount};
+
+const TRANSACTION_TYPE: FieldId = FieldId { kind: 1, code: 2 };
+const SEQUENCE: FieldId = FieldId { kind: 2, code: 4 };
+const FIRST_LEDGER_SEQUENCE: FieldId = FieldId { kind: 2, code: 26 };
+const LAST_LEDGER_SEQUENCE: FieldId = FieldId { kind: 2, code: 27 };
+const EMIT_GENERATION: FieldId = FieldId { kind: 2, code: 46 };
+const EMIT_BURDEN: FieldId = FieldId { kind: 3, code: 13 };
+const EMIT_PARENT: FieldId = FieldId { kind: 5, code: 11 };
+const EMIT_NONCE: FieldId = FieldId { kind: 5, code: 12 };
+const EMIT_HOOK_HASH: FieldId = FieldId { kind: 5, code: 13 };
+const AMOUNT: FieldId = FieldId { kind: 6, code: 1 };
+const FEE: FieldId = FieldId { kind: 6, code: 8 };
+const SEND_MAX: FieldId = FieldId { kind: 6, code: 9 };
+const DELIVER_MIN: FieldId = FieldId { kind: 6, code: 10 };
+const SIGNING_PUB_KEY: FieldId = FieldId { kind: 7, code: 3 };
+const ACCOUNT: FieldId = FieldId { kind: 8, code: 1 };
+const DESTINATION: FieldId = FieldId { kind: 8, code: 3 };
+const EMIT_CALLBACK: FieldId = FieldId { kind: 8, code: 10 };
+const EMIT_DETAILS: FieldId = FieldId { kind: 14, code: 13 };
+const HOOKS: FieldId = FieldId { kind: 15, code: 11 };
+
+/// Payments.
+const PAYMENT: u16 = 0;
+/// Changes of hooks.
+const SET_HOOK: u16 = 22;
+
+/// The transaction of an object's fields, as it is sent or as a hook emits it.
+///
+/// It is malformed where one of its rules is broken: a known type; the fields that each transaction has, with a native fee; a payment's
+/// destination and positive amount; a change of hooks' items; right parameters; and a sequence number and details as emitted or not.
+pub fn read_transaction(alloc: Global, object: &Object, emitted: bool) -> Result<Transaction, TransactionFault>
+    ensures ok { IfOk result (λ transaction. IsTransaction (items object.now) object.now.bytes emitted transaction) }
+    ensures malformed { result ≡ Err TransactionFault.Malformed → (transaction : Transaction) → IsTransaction (items object.now) object.now.bytes emitted transaction → ⊥ }
+{
+    one_amount();
+    let kind = match kind_of(object) {
+        None => return Err(TransactionFault::Malformed),
+        Some(kind) => kind,
+    };
+    let account = match account_at(object, ACCOUNT) {
+        None => return Err(TransactionFault::Malformed),
+        Some(account) => account,
+    };
+    let sequence = match number32_at(object, SEQUENCE) {
+        None => return Err(TransactionFault::Malformed),
+        Some(sequence) => sequence,
+    };
+    let fee = match fee_of(object) {
+        None => return Err(TransactionFault::Malformed),
+        Some(fee) => fee,
+    };
+    if let None = object.field(SIGNING_PUB_KEY) {
+        return Err(TransactionFault::Malformed);
+    }
+    let destination = account_at(object, DESTINATION);
+    let amount = amount_at(object, AMOUNT);
+    if !is_payment(kind, &destination, &amount) {
+        return Err(TransactionFault::Malformed);
+    }
+    let emission = emission_of(alloc, object, emitted, sequence)?;
+    let hooks = hooks_for(alloc, object, kind)?;
+    let parameters = given_parameters(alloc, object)?;
+    let blob = copied(alloc, object.bytes())?;
+    Ok(Transaction {
+        kind,
+        account,
+        destination,
+        sequence,
+        fee,
+        first: number32_at(object, FIRST_LEDGER_SEQUENCE),
+        last: number32_at(object, LAST_LEDGER_SEQUENCE),
+        amount,
+        parameters: parameters_or_none(alloc, parameters),
+        hooks,
+        other_amounts: has_either(object, SEND_MAX, DELIVER_MIN),
+        generation: emission.generation,
+        burden: emission.burden,
+        blob,
+        id: tx_id(object.bytes()),
+    })
+}
+
+/// The type of a transaction, if it is a known one.
+fn kind_of(object: &Object) -> Option<u16>
+    ensures some { IfSome result (λ kind. number16 transaction_type (items object.now) ≡ Some kind) }
+    ensures known { IfSome result (λ kind. IsTrue (kind == 0 || kind == 3 || kind == 22 || kind == 99)) }
+    ensures none { IfNone result ((kind : ℕ) → number16 transaction_type (items object.now) ≡ Some kind → IsTrue (kind == 0 || kind == 3 || kind == 22 || kind == 99) → ⊥) }
+{
+    match number16_at(object, TRANSACTION_TYPE) {
+        None => None,
+        Some(kind) => {
+            if is_known(kind) {
+                Some(kind)
+            } else {
+                None
+            }
+        }
+    }
+}
+
+fn is_known(kind: u16) -> bool
+    ensures known { result ≡ (kind == 0 || kind == 3 || kind == 22 || kind == 99) }
+{
+    kind == PAYMENT || kind == 3 || kind == SET_HOOK || kind == 99
+}
+
+/// The drops of a native fee.
+fn fee_of(object: &Object) -> Option<u64>
+    ensures some { IfSome result (λ drops. IsAmountOf (lookup fee (items object.now)) (Some (Native drops))) }
+    ensures none { IfNone result ((drops : ℕ) → IsAmountOf (lookup fee (items object.now)) (Some (Native drops)) → ⊥) }
+{
+    one_amount();
+    match amount_at(object, FEE) {
+        None => None,
+        Some(Amount::Native(drops)) => Some(drops),
+        Some(Amount::Issued { value: _, currency: _, issuer: _ }) => None,
+    }
+}
+
+/// Whether what a payment must have is there.
+fn is_payment(kind: u16, destination: &Option<AccountId>, amount: &Option<Amount>) -> bool
+    ensures payment { IsTrue result ↔ PaymentIs kind destination.now amount.now }
+{
+    if kind != PAYMENT {
+        return true;
+    }
+    match destination {
+        None => false,
+        Some(_) => match amount {
+            None => false,
+            Some(amount) => is_positive(amount),
+        },
+    }
+}
+
+fn is_positive(amount: &Amount) -> bool
+    ensures positive { IsTrue result ↔ IsPositive amount.now }
+{
+    match amount {
+        Amount::Native(drops) => *drops > 0,
+        Amount::Issued { value, currency: _, issuer: _ } => *value >= 1 << 62,
+    }
+}
+
+/// How many emissions led to a transaction, and what it costs for that.
+#[derive(Drop)]
+struct Emission {
+    generation: u32,
+    burden: u64,
+}
+
+fn emission_of(alloc: Global, object: &Object, emitted: bool, sequence: u32) -> Result<Emission, TransactionFault>
+    ensures ok { IfOk result (λ emission. EmissionIs emitted (lookup emit_details (items object.now)) sequence emission.generation emission.burden) }
+    ensures malformed { result ≡ Err TransactionFault.Malformed → (generation : ℕ) → (burden : ℕ) → EmissionIs emitted (lookup emit_details (items object.now)) sequence generation burden → ⊥ }
+{
+    match object.field(EMIT_DETAILS) {
+        None => {
+            if emitted {
+                return Err(TransactionFault::Malformed);
+            }
+            if sequence == 0 {
+                return Err(TransactionFault::Malformed);
+            }
+            if sequence == u32::MAX {
+                return Err(TransactionFault::Malformed);
+            }
+            Ok(Emission { generation: 0, burden: 1 })
+        }
+        Some(details) => {
+            if !emitted {
+                return Err(TransactionFault::Malformed);
+            }
+            if sequence != 0 {
+                return Err(TransactionFault::Malformed);
+            }
+            details_of(alloc, details)
+        }
+    }
+}
+
+fn details_of(alloc: Global, bytes: &[u8]) -> Result<Emission, TransactionFault>
+    ensures ok { IfOk result (λ emission. DetailsAre bytes.now emission.generation emission.burden) }
+    ensures malformed { result ≡ Err TransactionFault.Malformed → (generation : ℕ) → (burden : ℕ) → DetailsAre bytes.now generation burden → ⊥ }
+{
+    one_reading();
+    let object = nested_object(alloc, bytes)?;
+    details_in(&object)
+}
+
+fn details_in(object: &Object) -> Result<Emission, TransactionFault>
+    ensures ok { IfOk result (λ emission. DetailsIn (items object.now) emission.generation emission.burden) }
+    ensures malformed { result ≡ Err TransactionFault.Malformed → (generation : ℕ) → (burden : ℕ) → DetailsIn (items object.now) generation burden → ⊥ }
+{
+    if !has_only(object, &[EMIT_GENERATION, EMIT_BURDEN, EMIT_PARENT, EMIT_NONCE, EMIT_HOOK_HASH, EMIT_CALLBACK]) {
+        return Err(TransactionFault::Malformed);
+    }
+    let generation = match number32_at(object, EMIT_GENERATION) {
+        None => return Err(TransactionFault::Malformed),
+        Some(generation) => generation,
+    };
+    let burden = match number64_at(object, EMIT_BURDEN) {
+        None => return Err(TransactionFault::Malformed),
+        Some(burden) => burden,
+    };
+    if let None = object.field(EMIT_PARENT) {
+        return Err(TransactionFault::Malformed);
+    }
+    if let None = object.field(EMIT_NONCE) {
+        return Err(TransactionFault::Malformed);
+    }
+    if let None = object.field(EMIT_HOOK_HASH) {
+        return Err(TransactionFault::Malformed);
+    }
+    Ok(Emission { generation, burden })
+}
+
+/// The items of a change of hooks, and none of another type.
+fn hooks_for(alloc: Global, object: &Object, kind: u16) -> Result<Items<HookItem>, TransactionFault>
+    ensures ok { IfOk result (λ found. HooksAre kind (lookup hooks (items object.now)) found) }
+    ensures malformed { result ≡ Err TransactionFault.Malformed → (found : List HookItem) → HooksAre kind (lookup hooks (items object.now)) found → ⊥ }
+{
+    if kind != SET_HOOK {
+        return Ok(Items::new(alloc));
+    }
+    match object.field(HOOKS) {
+        None => Err(TransactionFault::Malformed),
+        Some(bytes) => read_hooks(alloc, bytes),
+    }
+}
+
+fn has_either(object: &Object, one: FieldId, other: FieldId) -> bool
+    ensures either { result ≡ (is_some (lookup one (items object.now)) || is_some (lookup other (items object.now))) }
+{
+    has(object, one) || has(object, other)
+}
+
+fn has(object: &Object, field: FieldId) -> bool
+    ensures has { result ≡ is_some (lookup field (items object.now)) }
+{
+    match object.field(field) {
+        None => false,
+        Some(_) => true,
+    }
+}
