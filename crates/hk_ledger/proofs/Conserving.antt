@@ -80,7 +80,7 @@ module _ (rules : Rules) (law : KeepsSum rules) (read : List ℕ → Reading) wh
       let go = went _ _ _ shown (λ next. replayed rules read next lines) h in
       let done = applied rules s.ledger verdict (read blob) in
       behind (printed.Tx (s.count + 1) done.result done.fee ∷ []) go.rest.from shown _ go.rest.to
-        (subst (λ n. AddsUp (n + opened_with lines) go.rest.from) (applied_sum rules s.ledger verdict (read blob) law) (adds_up lines _ go.rest.from go.rest.at))
+      (subst (λ n. AddsUp (n + opened_with lines) go.rest.from) (applied_sum rules s.ledger verdict (read blob) law) (adds_up lines _ go.rest.from go.rest.at))
   adds_up (Hook code ∷ lines) s shown h = cc
   adds_up (End ∷ lines) s shown h = record {
     front = account_lines (entries s.ledger.entries);

@@ -2,7 +2,9 @@
 ghost use Rattle.std.specs.Prelude.{◌≡◌, ◌<◌, IfOk};
 ghost use Rattle.hk_ledger.specs.Transactions.{IsCountable};
 
-use crate::{Native, OpenFault, Reading, Replay, Stepped, World, apply_reading, open_account, open_ledger};
+use crate::{
+    Native, OpenFault, Reading, Replay, Stepped, World, apply_reading, open_account, open_ledger,
+};
 use hk_base::{AccountId, Hash256, Items, NoMemory};
 use hk_lines::{ResultName, Rule, Verdict, print_line};
 use std::alloc::Global;
@@ -114,7 +116,10 @@ fn replays_a_payment(rt: HostRuntime) -> Result<(), NoMemory> {
     show(&mut out, &replay.account(alloc, &A, 20_000_000, 1)?)?;
     show(&mut out, &replay.account(alloc, &B, 10_000_000, 1)?)?;
     show(&mut out, &replay.ledger(alloc, 5, 100, &ZEROS)?)?;
-    show(&mut out, &replay.transaction(alloc, &Native, GOOD, &Reading::Malformed)?)?;
+    show(
+        &mut out,
+        &replay.transaction(alloc, &Native, GOOD, &Reading::Malformed)?,
+    )?;
     show(&mut out, &replay.transaction(alloc, &Native, GOOD, &paid)?)?;
     show(&mut out, &replay.transaction(alloc, &Native, GOOD, &paid)?)?;
     let more = show(&mut out, &replay.end(alloc)?)?;
@@ -139,22 +144,37 @@ fn breaks_rules(rt: HostRuntime) -> Result<(), NoMemory> {
     let early = replay.transaction(alloc, &Native, GOOD, &Reading::Unparsed)?;
     assert_eq!(rt; broken(early), Some(Rule::BadOrder));
     assert_eq!(rt; broken(replay.account(alloc, &A, most, 1)?), None);
-    assert_eq!(rt; broken(replay.account(alloc, &A, 1, 1)?), Some(Rule::RepeatedAccount));
+    assert_eq!(rt;
+        broken(replay.account(alloc, &A, 1, 1)?),
+        Some(Rule::RepeatedAccount)
+    );
     assert_eq!(rt; broken(replay.account(alloc, &B, 1, 1)?), Some(Rule::Total));
     assert_eq!(rt; broken(replay.account(alloc, &B, 0, 1)?), None);
     assert_eq!(rt; broken(replay.ledger(alloc, 5, 0, &ZEROS)?), None);
-    assert_eq!(rt; broken(replay.ledger(alloc, 5, 0, &ZEROS)?), Some(Rule::BadOrder));
-    assert_eq!(rt; broken(replay.account(alloc, &C, 0, 1)?), Some(Rule::BadOrder));
+    assert_eq!(rt;
+        broken(replay.ledger(alloc, 5, 0, &ZEROS)?),
+        Some(Rule::BadOrder)
+    );
+    assert_eq!(rt;
+        broken(replay.account(alloc, &C, 0, 1)?),
+        Some(Rule::BadOrder)
+    );
     assert_eq!(rt; broken(replay.ledger(alloc, 6, 0, &ZEROS)?), None);
     Ok(())
 }
 
 // The result and the fee of a transaction after two accounts and ledger 5, and the balances of A and B behind it.
-fn result_of(alloc: Global, balance: u64, case: &Case) -> Result<(Option<ResultName>, u64, u64, u64), NoMemory>
+fn result_of(
+    alloc: Global,
+    balance: u64,
+    case: &Case,
+) -> Result<(Option<ResultName>, u64, u64, u64), NoMemory>
     requires balance { balance < 50000000000000000 }
 {
     let mut world = World::new(alloc);
-    if open_account(&mut world, &A, balance, 1).is_err() || open_account(&mut world, &B, 10_000_000, 1).is_err() {
+    if open_account(&mut world, &A, balance, 1).is_err()
+        || open_account(&mut world, &B, 10_000_000, 1).is_err()
+    {
         return Ok((None, 0, 0, 0));
     }
     open_ledger(&mut world, 5, 100, &ZEROS);
@@ -173,25 +193,223 @@ fn result_of(alloc: Global, balance: u64, case: &Case) -> Result<(Option<ResultN
 fn gives_the_first_result(rt: HostRuntime) -> Result<(), NoMemory> {
     let p = PAYMENT;
     let cases = [
-        (20_000_000, Case { verdict: Verdict::Bad, from: C, ..p }, ResultName::BadSignature, 0, 20_000_000, 10_000_000),
-        (20_000_000, Case { from: C, sequence: 9, ..p }, ResultName::NoAccount, 0, 20_000_000, 10_000_000),
-        (20_000_000, Case { sequence: 0, first: Some(6), ..p }, ResultName::PastSequence, 0, 20_000_000, 10_000_000),
-        (20_000_000, Case { sequence: 2, last: Some(4), ..p }, ResultName::FutureSequence, 0, 20_000_000, 10_000_000),
-        (20_000_000, Case { first: Some(6), last: Some(4), ..p }, ResultName::Early, 0, 20_000_000, 10_000_000),
-        (20_000_000, Case { last: Some(4), fee: 9, ..p }, ResultName::Expired, 0, 20_000_000, 10_000_000),
-        (5, Case { fee: 9, ..p }, ResultName::FeeTooSmall, 0, 5, 10_000_000),
-        (9, Case { other_amounts: true, ..p }, ResultName::FeeUnfunded, 0, 9, 10_000_000),
-        (10, Case { to: A, other_amounts: true, ..p }, ResultName::Unsupported, 10, 0, 10_000_000),
-        (10, Case { to: A, amount: ISSUED, ..p }, ResultName::Unsupported, 10, 0, 10_000_000),
-        (10, Case { to: A, ..p }, ResultName::Redundant, 10, 0, 10_000_000),
-        (10, Case { to: C, amount: Amount::Native(9_999_999), ..p }, ResultName::NoDestination, 10, 0, 10_000_000),
-        (20_000_000, Case { to: C, amount: Amount::Native(10_000_000), ..p }, ResultName::Unfunded, 10, 19_999_990, 10_000_000),
-        (20_000_010, Case { to: C, amount: Amount::Native(10_000_000), ..p }, ResultName::Success, 10, 10_000_000, 10_000_000),
-        (20_000_000, Case { amount: Amount::Native(9_999_991), ..p }, ResultName::Unfunded, 10, 19_999_990, 10_000_000),
-        (20_000_000, Case { amount: Amount::Native(9_999_990), ..p }, ResultName::Success, 10, 10_000_000, 19_999_990),
-        (20_000_000, Case { first: Some(5), last: Some(5), ..p }, ResultName::Success, 10, 18_999_990, 11_000_000),
-        (12, Case { kind: 3, fee: 12, ..p }, ResultName::Success, 12, 0, 10_000_000),
-        (12, Case { kind: 99, fee: 11, ..p }, ResultName::Success, 11, 1, 10_000_000),
+        (
+            20_000_000,
+            Case {
+                verdict: Verdict::Bad,
+                from: C,
+                ..p
+            },
+            ResultName::BadSignature,
+            0,
+            20_000_000,
+            10_000_000,
+        ),
+        (
+            20_000_000,
+            Case {
+                from: C,
+                sequence: 9,
+                ..p
+            },
+            ResultName::NoAccount,
+            0,
+            20_000_000,
+            10_000_000,
+        ),
+        (
+            20_000_000,
+            Case {
+                sequence: 0,
+                first: Some(6),
+                ..p
+            },
+            ResultName::PastSequence,
+            0,
+            20_000_000,
+            10_000_000,
+        ),
+        (
+            20_000_000,
+            Case {
+                sequence: 2,
+                last: Some(4),
+                ..p
+            },
+            ResultName::FutureSequence,
+            0,
+            20_000_000,
+            10_000_000,
+        ),
+        (
+            20_000_000,
+            Case {
+                first: Some(6),
+                last: Some(4),
+                ..p
+            },
+            ResultName::Early,
+            0,
+            20_000_000,
+            10_000_000,
+        ),
+        (
+            20_000_000,
+            Case {
+                last: Some(4),
+                fee: 9,
+                ..p
+            },
+            ResultName::Expired,
+            0,
+            20_000_000,
+            10_000_000,
+        ),
+        (
+            5,
+            Case { fee: 9, ..p },
+            ResultName::FeeTooSmall,
+            0,
+            5,
+            10_000_000,
+        ),
+        (
+            9,
+            Case {
+                other_amounts: true,
+                ..p
+            },
+            ResultName::FeeUnfunded,
+            0,
+            9,
+            10_000_000,
+        ),
+        (
+            10,
+            Case {
+                to: A,
+                other_amounts: true,
+                ..p
+            },
+            ResultName::Unsupported,
+            10,
+            0,
+            10_000_000,
+        ),
+        (
+            10,
+            Case {
+                to: A,
+                amount: ISSUED,
+                ..p
+            },
+            ResultName::Unsupported,
+            10,
+            0,
+            10_000_000,
+        ),
+        (
+            10,
+            Case { to: A, ..p },
+            ResultName::Redundant,
+            10,
+            0,
+            10_000_000,
+        ),
+        (
+            10,
+            Case {
+                to: C,
+                amount: Amount::Native(9_999_999),
+                ..p
+            },
+            ResultName::NoDestination,
+            10,
+            0,
+            10_000_000,
+        ),
+        (
+            20_000_000,
+            Case {
+                to: C,
+                amount: Amount::Native(10_000_000),
+                ..p
+            },
+            ResultName::Unfunded,
+            10,
+            19_999_990,
+            10_000_000,
+        ),
+        (
+            20_000_010,
+            Case {
+                to: C,
+                amount: Amount::Native(10_000_000),
+                ..p
+            },
+            ResultName::Success,
+            10,
+            10_000_000,
+            10_000_000,
+        ),
+        (
+            20_000_000,
+            Case {
+                amount: Amount::Native(9_999_991),
+                ..p
+            },
+            ResultName::Unfunded,
+            10,
+            19_999_990,
+            10_000_000,
+        ),
+        (
+            20_000_000,
+            Case {
+                amount: Amount::Native(9_999_990),
+                ..p
+            },
+            ResultName::Success,
+            10,
+            10_000_000,
+            19_999_990,
+        ),
+        (
+            20_000_000,
+            Case {
+                first: Some(5),
+                last: Some(5),
+                ..p
+            },
+            ResultName::Success,
+            10,
+            18_999_990,
+            11_000_000,
+        ),
+        (
+            12,
+            Case {
+                kind: 3,
+                fee: 12,
+                ..p
+            },
+            ResultName::Success,
+            12,
+            0,
+            10_000_000,
+        ),
+        (
+            12,
+            Case {
+                kind: 99,
+                fee: 11,
+                ..p
+            },
+            ResultName::Success,
+            11,
+            1,
+            10_000_000,
+        ),
     ];
     for (balance, case, name, fee, left, got) in &cases {
         if *balance >= 50_000_000_000_000_000 {
@@ -206,8 +424,14 @@ fn gives_the_first_result(rt: HostRuntime) -> Result<(), NoMemory> {
 #[test]
 fn opens_accounts(rt: HostRuntime) {
     let mut world = World::new(rt.alloc());
-    assert_eq!(rt; open_account(&mut world, &A, 99_999_999_999_999_999, 1), Ok(()));
-    assert_eq!(rt; open_account(&mut world, &A, 0, 1), Err(OpenFault::Repeated));
+    assert_eq!(rt;
+        open_account(&mut world, &A, 99_999_999_999_999_999, 1),
+        Ok(())
+    );
+    assert_eq!(rt;
+        open_account(&mut world, &A, 0, 1),
+        Err(OpenFault::Repeated)
+    );
     assert_eq!(rt; open_account(&mut world, &B, 2, 1), Err(OpenFault::Total));
     assert_eq!(rt; open_account(&mut world, &B, 1, 1), Ok(()));
 }

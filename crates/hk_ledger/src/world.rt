@@ -85,7 +85,12 @@ impl World {
 /// Opens an account with a balance in drops, and the sequence of its first transaction.
 ///
 /// After a refusal the world is as it was.
-pub fn open_account(world: &mut World, id: &AccountId, balance: u64, sequence: u32) -> Result<(), OpenFault>
+pub fn open_account(
+    world: &mut World,
+    id: &AccountId,
+    balance: u64,
+    sequence: u32,
+) -> Result<(), OpenFault>
     requires most { balance ≤ most_drops }
     ensures ok { OnOk result (world.new ≡ opened world.old id.now balance sequence) }
     ensures err { OnErr result (world.new ≡ world.old) }
