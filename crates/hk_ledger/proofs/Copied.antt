@@ -26,12 +26,14 @@ module _ {X : Type 0} where
   whole m copied is = same_map keys_total exact_keys copied m (λ q. is.given q refl)
 
   pub one_more : (m copied : FinMap key_cmp X) (k : Key) (v : X) (rest : List (Key × X)) → get m k ≡ Some v → IsCopied m copied ((k, v) ∷ rest) → IsCopied m (insert copied k v) rest
-  one_more m copied k v rest at is = record { given = λ q none.
-      get-insert keys_total copied k v q
-      ∙ elim (is_key q k) as (λ b. is_key q k ≡ b → cond b (Some v) (get copied q) ≡ get m q) [
+  one_more m copied k v rest at is = record {
+    given = λ q none.
+        get-insert keys_total copied k v q
+        ∙ elim (is_key q k) as (λ b. is_key q k ≡ b → cond b (Some v) (get copied q) ≡ get m q) [
           | true ↦ λ tied. sym (sym (get_tied keys_total m q k (tie q k tied)) ∙ at)
           | false ↦ λ apart. is.given q (ap (λ b. b || list_any (λ e. is_key q e.0) rest) apart ∙ none)
-        ] refl }
+        ] refl;
+  }
 
   none_found : (q : Key) (es : List (Key × X)) → list_any (λ e. is_key q e.0) es ≡ false → find key_cmp q es ≡ None
   none_found q [] h = refl
@@ -43,9 +45,11 @@ module _ {X : Type 0} where
 
   -- nothing is copied yet
   pub none_yet : (m copied : FinMap key_cmp X) (rest es : List (Key × X)) → from_entries es ≡ m → copied ≡ empty → rest ≡ es → IsCopied m copied rest
-  none_yet m copied rest es view new all = record { given = λ q none.
-      ap (λ n. get n q) new ∙ get-empty key_cmp q
-      ∙ sym (ap (λ n. get n q) (sym view) ∙ get-from_entries keys_total es q ∙ none_found q es (ap (list_any (λ e. is_key q e.0)) (sym all) ∙ none)) }
+  none_yet m copied rest es view new all = record {
+    given = λ q none.
+        ap (λ n. get n q) new ∙ get-empty key_cmp q
+        ∙ sym (ap (λ n. get n q) (sym view) ∙ get-from_entries keys_total es q ∙ none_found q es (ap (list_any (λ e. is_key q e.0)) (sym all) ∙ none));
+  }
 
   -- one entry more
   pub copied_one : (m copied now : FinMap key_cmp X) (k : Key) (v w : X) (rest more : List (Key × X)) → get m k ≡ Some v → w ≡ v → now ≡ insert copied k w → rest ≡ (k, v) ∷ more → IsCopied m copied rest → IsCopied m now more

@@ -5,4 +5,4 @@ pub mod Fits
 pub mod Whole
 pub mod Reported
 pub mod Ordered
-pub mod Opening
+pub mod Conserving

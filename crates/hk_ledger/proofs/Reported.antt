@@ -32,7 +32,7 @@ settled_whole rules ledger now opening verdict t name law none whole done =
     let conserved = whole.conserved in
     let numbers = whole.next in
     subst (λ l. IsWhole l opening) (sym done.ledger)
-      (record { conserved = omega (arith, sum, conserved); most = whole.most; next = omega (arith, next, numbers) })
+    (record { conserved = omega (arith, sum, conserved); most = whole.most; next = omega (arith, next, numbers) })
 
 pub reported : (rules : Rules) (ledger now : LedgerValue) (opening : ℕ) (verdict : Verdict) (t : Transaction) (name : ResultName) (report : Report) →
     first_row (refusal_rows ledger verdict t) ≡ None →
@@ -41,10 +41,10 @@ pub reported : (rules : Rules) (ledger now : LedgerValue) (opening : ℕ) (verdi
     Reports (applied rules ledger verdict (reading.Transaction t)) (record { ledger = ledger; opening = opening }) (record { ledger = now; opening = opening }) report
 reported rules ledger now opening verdict t name report none done is =
     subst (λ found. Reports (goes_on rules ledger t found) (record { ledger = ledger; opening = opening }) (record { ledger = now; opening = opening }) report) (sym none)
-      (record {
-        ledger = done.ledger;
-        opening = refl;
-        result = ap (λ r. r.result) is ∙ ap Some done.result;
-        fee = ap (λ r. r.fee) is ∙ settled_fee ledger t (rules ledger.header (paid ledger.entries t) t);
-        lines = ap (λ r. r.lines) is;
-      })
+    (record {
+      ledger = done.ledger;
+      opening = refl;
+      result = ap (λ r. r.result) is ∙ ap Some done.result;
+      fee = ap (λ r. r.fee) is ∙ settled_fee ledger t (rules ledger.header (paid ledger.entries t) t);
+      lines = ap (λ r. r.lines) is;
+    })

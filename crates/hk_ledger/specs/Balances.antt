@@ -6,7 +6,6 @@ use Rattle.std.specs.declared.cmp.Ordering.TheVariants.{Less, Equal, Greater}
 use Rattle.std.specs.Ordering.{is_lt, is_eq}
 use Rattle.std.specs.Cmp.{IsTotalOrder}
 use Rattle.std.proofs.lemmas.Cmp.{tied_itself}
-
 use Rattle.std.specs.FinMap.{FinMap, get, insert, remove, find, put, is_sorted, entries, get-entries, get-insert, get-remove, entries-insert, entries_sorted, same_map, empty, len-entries, len-empty}
 use Rattle.hk_ledger.specs.Keys.{key_cmp, is_key, keys_total, exact_keys}
 use Rattle.hk_ledger.specs.declared.key.Key.{Key}
@@ -104,18 +103,18 @@ put_back : (m : FinMap key_cmp Entry) (key : Key) (e : Entry) → get m key ≡ 
 put_back m key e at = same_map keys_total exact_keys _ _ (λ q.
     get-insert keys_total (remove m key) key e q
     ∙ elim (is_key q key) as (λ b. is_key q key ≡ b → cond b (Some e) (get (remove m key) q) ≡ get m q) [
-        | true ↦ λ h. sym (ap (get m) (exact q key h) ∙ at)
-        | false ↦ λ h. get-remove keys_total m key q ∙ ap (λ b. cond b None (get m q)) h
-      ] refl)
+      | true ↦ λ h. sym (ap (get m) (exact q key h) ∙ at)
+      | false ↦ λ h. get-remove keys_total m key q ∙ ap (λ b. cond b None (get m q)) h
+    ] refl)
 
 -- nothing is taken out
 untouched : (m : FinMap key_cmp Entry) (key : Key) → get m key ≡ None → remove m key ≡ m
 untouched m key at = same_map keys_total exact_keys _ _ (λ q.
     get-remove keys_total m key q
     ∙ elim (is_key q key) as (λ b. is_key q key ≡ b → cond b None (get m q) ≡ get m q) [
-        | true ↦ λ h. sym (ap (get m) (exact q key h) ∙ at)
-        | false ↦ λ h. refl
-      ] refl)
+      | true ↦ λ h. sym (ap (get m) (exact q key h) ∙ at)
+      | false ↦ λ h. refl
+    ] refl)
 
 pub balances-remove : (m : FinMap key_cmp Entry) (key : Key) → balances (remove m key) + balance_or_zero (get m key) ≡ balances m
 balances-remove m key =

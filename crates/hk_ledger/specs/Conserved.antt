@@ -90,7 +90,7 @@ pub paid_sender : (ledger : LedgerValue) (t : Transaction) → Taken ledger t �
 paid_sender ledger t is =
     let here : IsSome (holding_at ledger.entries t.account) = ap is_some is.at in
     subst (λ found. IsSome (holding_at (paid_from ledger.entries t found) t.account)) (sym is.at)
-      (stays ledger.entries t.account (is.holding.balance - t.fee) (is.holding.sequence + 1) t.account here)
+    (stays ledger.entries t.account (is.holding.balance - t.fee) (is.holding.sequence + 1) t.account here)
 
 -- a fee that is taken is at most the sum
 pub fee_most : (ledger : LedgerValue) (t : Transaction) → Taken ledger t → t.fee ≤ balances ledger.entries

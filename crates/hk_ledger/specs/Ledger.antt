@@ -20,10 +20,10 @@ pub record LedgerValue : Type 0 where
 abbrev pub coded_ledger : Coded LedgerValue
 coded_ledger =
     code_by (map.FinMap key_cmp Entry × (Header × (ℕ × ℕ)))
-      (coded× (map.code coded_key entry.the_row.coded) (coded× header.the_row.coded (coded× coded_ℕ coded_ℕ)))
-      (λ l. (l.entries, (l.header, (l.next, l.burnt))))
-      (λ p. record { entries = p.0; header = p.1.0; next = p.1.1.0; burnt = p.1.1.1 })
-      (λ _. refl)
+    (coded× (map.code coded_key entry.the_row.coded) (coded× header.the_row.coded (coded× coded_ℕ coded_ℕ)))
+    (λ l. (l.entries, (l.header, (l.next, l.burnt))))
+    (λ p. record { entries = p.0; header = p.1.0; next = p.1.1.0; burnt = p.1.1.1 })
+    (λ _. refl)
 
 -- no entries, a header of zeros, and the next number 1
 abbrev pub new_ledger : LedgerValue

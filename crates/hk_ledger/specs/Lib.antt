@@ -12,3 +12,4 @@ pub mod NativeLaws
 pub mod World
 pub mod Machine
 pub mod Reports
+pub mod Replays

@@ -93,7 +93,7 @@ account_step s id balance sequence =
 abbrev pub ledger_step : State → ℕ → ℕ → Hash256 → Step
 ledger_step s seq time last_hash =
     unless_broken (first_row (ledger_rules s.ledger seq))
-      (goes (record s { ledger = with_header s.ledger (record { seq = seq; time = time; last_hash = last_hash }) }) (printed.Ledger seq ∷ []))
+    (goes (record s { ledger = with_header s.ledger (record { seq = seq; time = time; last_hash = last_hash }) }) (printed.Ledger seq ∷ []))
 
 abbrev pub tx_step : Rules → State → Verdict → Reading → Step
 tx_step rules s verdict reading = unless_broken (first_row (tx_rules s.ledger)) (counted s.count (applied rules s.ledger verdict reading))

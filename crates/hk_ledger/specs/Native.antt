@@ -60,7 +60,7 @@ unless (Some name) m = fails name
 abbrev pub payment : Header → FinMap key_cmp Entry → Transaction → Option AccountId → Option Amount → Option Holding → Effect
 payment header m t (Some to) (Some amount) (Some sender) =
     unless (first_row (payment_rows t to amount sender (holding_at m to)))
-      (credited header (debited m t.account (drops_of amount) sender) to (drops_of amount) (holding_at m to))
+    (credited header (debited m t.account (drops_of amount) sender) to (drops_of amount) (holding_at m to))
 payment header m t to amount sender = keeps m
 
 -- AccountSet and Invoke have no effect of their own

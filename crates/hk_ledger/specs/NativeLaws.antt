@@ -84,8 +84,8 @@ payment_stays : (header : Header) (m n : FinMap key_cmp Entry) (t : Transaction)
 payment_stays header m n t (Some to) (Some amount) (Some sender) id e is =
     let k = unless_keeps (first_row (payment_rows t to amount sender (holding_at m to))) _ n e in
     subst (λ p. IsSome (holding_at p id)) k.1
-      (credit_stays header (debited m t.account (drops_of amount) sender) to (drops_of amount) (holding_at m to) id
-        (stays m t.account (sender.balance - drops_of amount) sender.sequence id is))
+    (credit_stays header (debited m t.account (drops_of amount) sender) to (drops_of amount) (holding_at m to) id
+    (stays m t.account (sender.balance - drops_of amount) sender.sequence id is))
 payment_stays header m n t to amount sender id e is = subst (λ p. IsSome (holding_at p id)) (kept e) is
 
 pub native_accounts : KeepsAccounts native

@@ -125,7 +125,14 @@ impl Transactor for Native {
         }
         let sender = overlay.holding(ledger, &transaction.account);
         match (transaction.destination, transaction.amount, sender) {
-            (Some(to), Some(amount), Some(sender)) => pay(ledger, overlay, transaction, &to, &amount, sender),
+            (Some(to), Some(amount), Some(sender)) => pay(
+                ledger,
+                overlay,
+                transaction,
+                &to,
+                &amount,
+                sender,
+            ),
             _ => Ok(Done::Kept(overlay)),
         }
     }

@@ -17,7 +17,7 @@ pub enum Stepped {
     Goes(Items<OutputLine>),
     /// The replay ends, and these lines are printed.
     Ends(Items<OutputLine>),
-    /// The line breaks a rule, and nothing changes.
+    /// The line breaks a rule.
     Breaks(Rule),
 }
 

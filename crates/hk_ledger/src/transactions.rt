@@ -37,7 +37,11 @@ fn comes_late(seq: u32, last: Option<u32>) -> bool
 }
 
 // The first result that applies to a transaction of an account and takes no fee, if one does.
-fn account_refusal(seq: u32, transaction: &Transaction, holding: Option<Holding>) -> Option<ResultName>
+fn account_refusal(
+    seq: u32,
+    transaction: &Transaction,
+    holding: Option<Holding>,
+) -> Option<ResultName>
     ensures rows { result ≡ first_row (account_rows seq transaction.now holding) }
 {
     let Some(holding) = holding else {

@@ -3,7 +3,8 @@ ghost use Rattle.std.specs.Prelude.{◌≡◌, ◌+◌, ◌<◌, ◌≤◌, ◌�
 ghost use Rattle.hk_ledger.specs.Balances.{balances};
 ghost use Rattle.hk_ledger.specs.Holdings.{holding_at};
 ghost use Rattle.hk_ledger.specs.Machine.{final_lines};
-ghost use Rattle.hk_ledger.specs.World.{WorldValue, new_world, opened, with_header, most_drops};
+ghost use Rattle.hk_ledger.specs.Replays.{AddsUp};
+ghost use Rattle.hk_ledger.specs.World.{new_world, opened, with_header, most_drops};
 
 use crate::{Header, Holding, Ledger};
 use hk_base::{AccountId, Hash256, Items, NoMemory};
@@ -16,7 +17,7 @@ use thiserror::Error;
 const MOST_DROPS: u64 = 100_000_000_000_000_000;
 
 /// Why an account isn't opened.
-#[derive(Clone, Copy, Debug, PartialEq, Eq, Drop, Error)]
+#[derive(Clone, Copy, Debug, PartialEq, Eq, Error)]
 pub enum OpenFault {
     /// The ledger has an account of this id.
     #[error("account repeated")]
@@ -65,9 +66,10 @@ impl World {
         &self.ledger
     }
 
-    /// The lines at the end: each account, and the sums of the balances and of the burnt fees, which add up to the opening total.
+    /// The lines at the end: each account, and the sums of the balances and of the burnt fees.
     pub fn final_lines(&self, alloc: Global) -> Result<Items<OutputLine>, NoMemory>
         ensures lines { IfOk result (λ lines. lines ≡ final_lines self.now.ledger) }
+        ensures total { IfOk result (λ lines. AddsUp self.now.opening lines) }
     {
         let mut lines = self.ledger.account_lines(alloc)?;
         let burnt = self.ledger.burnt();
@@ -83,7 +85,12 @@ impl World {
 /// Opens an account with a balance in drops, and the sequence of its first transaction.
 ///
 /// After a refusal the world is as it was.
-pub fn open_account(world: &mut World, id: &AccountId, balance: u64, sequence: u32) -> Result<(), OpenFault>
+pub fn open_account(
+    world: &mut World,
+    id: &AccountId,
+    balance: u64,
+    sequence: u32,
+) -> Result<(), OpenFault>
     requires most { balance ≤ most_drops }
     ensures ok { OnOk result (world.new ≡ opened world.old id.now balance sequence) }
     ensures err { OnErr result (world.new ≡ world.old) }

@@ -7,7 +7,7 @@ use Rattle.hk_ledger.proofs.transactions.settle.Goals as goal
 pub perform-requires-clause-sender : goal.perform-requires-clause-sender
 perform-requires-clause-sender g c =
     subst (λ m. IsSome (holding_at m c.args.transaction.now.account)) (sym c.in_ok-overlay.ensures.paid)
-      (paid_sender c.args.ledger.now c.args.transaction.now c.requires.taken)
+    (paid_sender c.args.ledger.now c.args.transaction.now c.requires.taken)
 
 pub perform-requires-clause-sum : goal.perform-requires-clause-sum
 perform-requires-clause-sum g c =

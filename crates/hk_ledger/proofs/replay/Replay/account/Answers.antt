@@ -1,1 +1,0 @@
-use Rattle.hk_ledger.proofs.replay.Replay.account.Goals as goal
