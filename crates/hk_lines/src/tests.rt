@@ -142,18 +142,21 @@ fn long_line(alloc: Global, size: usize) -> Result<Vec<u8>, AllocError> {
 fn the_longest_line_is_read(rt: HostRuntime) -> Result<(), Fail> {
     let alloc = rt.alloc();
     let longest = long_line(alloc, 2_097_152)?;
-    match read_line(alloc, &longest) {
-        Ok(InputLine::Tx { verdict, blob }) => {
-            assert!(rt; verdict == Verdict::Good);
-            assert_eq!(rt; blob.len(), 1_048_572);
-        }
-        _ => assert!(rt; false, "the longest line"),
-    }
+    let read = read_line(alloc, &longest);
+    assert!(rt; is_good_blob(&read, 1_048_572));
     for size in [2_097_153, 2_097_154] {
         let line = long_line(alloc, size)?;
         assert!(rt; matches!(read_line(alloc, &line), Err(LineFault::TooLong)));
     }
     Ok(())
+}
+
+/// Whether a line was read as a transaction of so many bytes with a good verdict.
+fn is_good_blob(read: &Result<InputLine, LineFault>, size: usize) -> bool {
+    match read {
+        Ok(InputLine::Tx { verdict, blob }) => *verdict == Verdict::Good && blob.len() == size,
+        _ => false,
+    }
 }
 
 fn some_text(alloc: Global, text: &[u8]) -> Result<Items<u8>, AllocError> {
@@ -420,7 +423,7 @@ fn lines_of(
 ) -> Result<Vec<u8>, AllocError> {
     let mut cutter = Cutter::new(alloc);
     let mut text = Vec::new(alloc);
-    for piece in bytes.chunks(size) {
+    for piece in bytes.chunks(size.max(1)) {
         add_piece(rt, &mut cutter, piece, &mut text)?;
     }
     assert!(rt; cutter.ready().is_none());
