@@ -42,12 +42,13 @@ size_same m n e = grind (arith, nat_tests)
 
 pub amount_whole : OneAmount → (value : List ℕ) (a : Amount) (size : ℕ) → AmountGives value (amounts.Amount a size) →
     (IsTrue (nat_eq size (length value)) → IsAmount value) × (IsAmount value → IsTrue (nat_eq size (length value)))
-amount_whole one value a size h =
-    (λ t. (a, h.0, sym (take_all size value (omega (arith, same_size size (length value) t))) ∙ h.2),
-     λ (b, valid, is).
-       let rest : (a ≡ b) × (drop size value ≡ []) =
-         one a b (drop size value) [] h.0 valid (ap (λ x. x ++ drop size value) (sym h.2) ∙ take-append-drop size value ∙ is ∙ sym (append-nil (amount_bytes b))) in
-       size_same size (length value) (omega (arith, h.1, ap length rest.1, length-drop size value)))
+amount_whole one value a size h = (
+  λ t. (a, h.0, sym (take_all size value (omega (arith, same_size size (length value) t))) ∙ h.2),
+  λ (b, valid, is).
+      let rest : (a ≡ b) × (drop size value ≡ []) =
+      one a b (drop size value) [] h.0 valid (ap (λ x. x ++ drop size value) (sym h.2) ∙ take-append-drop size value ∙ is ∙ sym (append-nil (amount_bytes b))) in
+      size_same size (length value) (omega (arith, h.1, ap length rest.1, length-drop size value)),
+)
 
 -- whether the bytes are fields or elements and no more
 pub fields_whole : (value rest : List ℕ) → Reads 9 Fields 0 value (ends rest) → IsValue 10 Object value
@@ -100,15 +101,17 @@ same_field f g fc gc e =
     made k n = record { kind = k; code = n }
 
 pub free_before : (field : FieldId) (fields : List Put) (i : ℕ) (d : Put) → IsList (puts fields) → i < length fields → AllBelow (number field) (puts (take i fields)) → number field < number (get_or fields i d).field → IsFree field fields (Some i)
-free_before field fields i d h within below less =
-    (omega arith, below,
-     subst (λ x. AllAbove (number field) (puts x)) (sym (drop_more fields i d within))
-       (above_after (IsValue 10) (number field) 0 (puts (take i fields)) (item_put (get_or fields i d)) (puts (drop (i + 1) fields)) (subst IsList (puts_cut fields i d within) h) less))
+free_before field fields i d h within below less = (
+  omega arith,
+  below,
+  subst (λ x. AllAbove (number field) (puts x)) (sym (drop_more fields i d within))
+      (above_after (IsValue 10) (number field) 0 (puts (take i fields)) (item_put (get_or fields i d)) (puts (drop (i + 1) fields)) (subst IsList (puts_cut fields i d within) h) less),
+)
 
 pub put_before : (field : FieldId) (fields : List Put) (i : ℕ) (d : Put) → i < length fields → field.code < 256 → (get_or fields i d).field.code < 256 → number field ≡ number (get_or fields i d).field → IsFree field fields None
 put_before field fields i d within small byte e =
     subst (λ xs. IsSome (lookup field xs)) (sym (puts_cut fields i d within))
-      (found_after field (puts (take i fields)) (item_put (get_or fields i d)) (puts (drop (i + 1) fields)) (sym (same_field field (get_or fields i d).field small byte e)))
+    (found_after field (puts (take i fields)) (item_put (get_or fields i d)) (puts (drop (i + 1) fields)) (sym (same_field field (get_or fields i d).field small byte e)))
 
 below_append : (n : ℕ) (a b : List Item) → AllBelow n a → AllBelow n b → AllBelow n (a ++ b)
 below_append n [] b h k = k
@@ -117,7 +120,7 @@ below_append n (x ∷ xs) b h k = (h.0, below_append n xs b h.1 k)
 pub below_more : (field : FieldId) (fields : List Put) (i : ℕ) (d : Put) → i < length fields → AllBelow (number field) (puts (take i fields)) → number (get_or fields i d).field < number field → AllBelow (number field) (puts (take (i + 1) fields))
 below_more field fields i d within below less =
     subst (λ x. AllBelow (number field) x) (sym (ap puts (take_more fields i d within) ∙ map-append item_put (take i fields) (get_or fields i d ∷ [])))
-      (below_append (number field) (puts (take i fields)) (item_put (get_or fields i d) ∷ []) below (less, tt))
+    (below_append (number field) (puts (take i fields)) (item_put (get_or fields i d) ∷ []) below (less, tt))
 
 -- each field that was put fits
 fit_of : (fields : List Put) (last i : ℕ) (d : Put) → ListFits (IsValue 10) false last (puts fields) → i < length fields → IsFit (get_or fields i d).field (get_or fields i d).value.items
@@ -143,6 +146,7 @@ with_at x (y ∷ ys) b below above = first (nat_lt (number x.field) (number y.fi
         (if less then y ∷ with_item x (ys ++ b) else x ∷ (ys ++ b)) ≡ y ∷ (ys ++ x ∷ b)
     second true e later = ap (λ t. y ∷ t) later
     second false e later = absurd (grind (arith, nat_tests, below.0))
+
     first : (less : Bool) → nat_lt (number x.field) (number y.field) ≡ less → with_item x (ys ++ b) ≡ ys ++ x ∷ b →
         (if less then x ∷ y ∷ (ys ++ b) else if nat_lt (number y.field) (number x.field) then y ∷ with_item x (ys ++ b) else x ∷ (ys ++ b)) ≡ y ∷ (ys ++ x ∷ b)
     first true e later = absurd (grind (arith, nat_tests, below.0))
@@ -151,8 +155,8 @@ with_at x (y ∷ ys) b below above = first (nat_lt (number x.field) (number y.fi
 pub put_at : (fields : List Put) (p : Put) (i : ℕ) → IsFree p.field fields (Some i) → puts (take i fields ++ p ∷ drop i fields) ≡ with_item (item_put p) (puts fields)
 put_at fields p i (within, below, above) =
     map-append item_put (take i fields) (p ∷ drop i fields)
-      ∙ sym (with_at (item_put p) (puts (take i fields)) (puts (drop i fields)) below above)
-      ∙ ap (with_item (item_put p)) (sym (map-append item_put (take i fields) (drop i fields)) ∙ ap puts (take-append-drop i fields))
+    ∙ sym (with_at (item_put p) (puts (take i fields)) (puts (drop i fields)) below above)
+    ∙ ap (with_item (item_put p)) (sym (map-append item_put (take i fields) (drop i fields)) ∙ ap puts (take-append-drop i fields))
 
 number-pos : (f : FieldId) → IsField f → 0 < number f
 number-pos f is = omega (arith, is.kind)
@@ -166,13 +170,13 @@ pub finished : OneReading → OneSpelling → (list : List Item) (object : Seen)
 finished one spelling list object h e read =
     let there : IsObject list object.bytes = subst (λ b. IsObject list b) (sym e) (spelling.1 list h) in
     (one 10 Fields (items object) list object.bytes (ends []) (ends []) (asks_less (IsValue 10) false _ _ (λ last left k. (k, refl)) 0 (items object) object.bytes read.object)
-      (asks_less (IsValue 10) false _ _ (λ last left k. (k, refl)) 0 list object.bytes there)).0
+    (asks_less (IsValue 10) false _ _ (λ last left k. (k, refl)) 0 list object.bytes there)).0
 
 -- a field that has a place wasn't put before
 pub free_absent : (field : FieldId) (fields : List Put) (i : ℕ) → IsFree field fields (Some i) → lookup field (puts fields) ≡ None
 free_absent field fields i (within, below, above) =
     ap (lookup field) (ap puts (sym (take-append-drop i fields)) ∙ map-append item_put (take i fields) (drop i fields))
-      ∙ lookup_below field (puts (take i fields)) (puts (drop i fields)) below ∙ lookup_above field (puts (drop i fields)) above
+    ∙ lookup_below field (puts (take i fields)) (puts (drop i fields)) below ∙ lookup_above field (puts (drop i fields)) above
 
 none_or_some : (o : Option (List ℕ)) → o ≡ None → IsSome o → ⊥
 none_or_some o e s = let t : IsSome {T = List ℕ} None = subst (λ p. IsSome p) e s in absurd (cc)
@@ -184,4 +188,4 @@ free_not_present field fields list i e f s = none_or_some (lookup field list) (a
 pub spelled_more : (fields : List Put) (i : ℕ) (p : Put) (before now : List ℕ) → i < length fields → p ≡ get_or fields i p → before ≡ spell (puts (take i fields)) → now ≡ before ++ spell (item_put p ∷ []) → now ≡ spell (puts (take (i + 1) fields))
 spelled_more fields i p before now within is b n =
     n ∙ ap (λ x. x ++ spell (item_put p ∷ [])) b ∙ sym (spell-append (puts (take i fields)) (item_put p ∷ []))
-      ∙ ap spell (sym (ap puts (take_more fields i p within ∙ ap (λ q. take i fields ++ q ∷ []) (sym is)) ∙ map-append item_put (take i fields) (p ∷ [])))
+    ∙ ap spell (sym (ap puts (take_more fields i p within ∙ ap (λ q. take i fields ++ q ∷ []) (sym is)) ∙ map-append item_put (take i fields) (p ∷ [])))

@@ -35,9 +35,11 @@ pub collected_more : (room : ℕ) (place : Place) (bytes : List ℕ) (spans : Li
     Collected room place bytes (spans ++ (f, span) ∷ []) (number f) next
 collected_more room place bytes spans last at f form tail span next c h v order within there = record {
   within = there;
-  leads = record { lead = λ outcome items r.
-    subst (λ xs. Comes (IsValue room) (BodyFails room) place 0 xs bytes outcome) (sym (append_assoc (items_of bytes spans) (item_of bytes (f, span) ∷ []) items) ∙ ap (λ xs. xs ++ items) (sym (map-append (item_of bytes) spans ((f, span) ∷ []))))
-      (c.leads.lead outcome (item_of bytes (f, span) ∷ items) (drop next bytes, field_stands (is_array place) room last f form (drop at bytes) tail (part bytes span.from span.to) (drop next bytes) h v, r)) };
+  leads = record {
+    lead = λ outcome items r.
+        subst (λ xs. Comes (IsValue room) (BodyFails room) place 0 xs bytes outcome) (sym (append_assoc (items_of bytes spans) (item_of bytes (f, span) ∷ []) items) ∙ ap (λ xs. xs ++ items) (sym (map-append (item_of bytes) spans ((f, span) ∷ []))))
+        (c.leads.lead outcome (item_of bytes (f, span) ∷ items) (drop next bytes, field_stands (is_array place) room last f form (drop at bytes) tail (part bytes span.from span.to) (drop next bytes) h v, r));
+  };
   ranges = All-push (InRange bytes) spans (f, span) c.ranges (order, within);
 }
 

@@ -25,7 +25,7 @@ pub elements_cut : (bytes : List ℕ) (spans : List (FieldId × Span)) (i : ℕ)
     items_of bytes spans ≡ items_of bytes (take i spans) ++ item_of bytes s ∷ items_of bytes (drop (i + 1) spans)
 elements_cut bytes spans i s h e =
     ap (items_of bytes) (sym (take-append-drop i spans)) ∙ map-append (item_of bytes) (take i spans) (drop i spans)
-      ∙ ap (λ x. items_of bytes (take i spans) ++ items_of bytes x) (drop_more spans i s h ∙ ap (λ t. t ∷ drop (i + 1) spans) (sym e))
+    ∙ ap (λ x. items_of bytes (take i spans) ++ items_of bytes x) (drop_more spans i s h ∙ ap (λ t. t ∷ drop (i + 1) spans) (sym e))
 
 pub elements_more : (bytes : List ℕ) (spans : List (FieldId × Span)) (i : ℕ) (s : FieldId × Span) → i < length spans → s ≡ get_or spans i s →
     items_of bytes (take (i + 1) spans) ≡ items_of bytes (take i spans) ++ item_of bytes s ∷ []
@@ -67,7 +67,7 @@ module _ {T : Type 0} (one : OneReading) (f : FieldId) (Is : List Item → T →
   pub refused_at : (ys : List T) (i : ℕ) (s : FieldId × Span) → AreElements f Is limit bytes ys → i < length spans → s ≡ get_or spans i s → ((y : T) → IsElement f Is (item_of bytes s) y → ⊥) → ⊥
   refused_at ys i s r within e none =
       let cut : (c : List T) × (y : T) × (d : List T) × (ys ≡ c ++ y ∷ d) × Each (IsElement f Is) (items_of bytes (take i spans)) c × IsElement f Is (item_of bytes s) y =
-        each_cut (IsElement f Is) (items_of bytes (take i spans)) (item_of bytes s) (items_of bytes (drop (i + 1) spans)) ys (subst (λ xs. Each (IsElement f Is) xs ys) (elements_cut bytes spans i s within e) (these ys r)) in
+      each_cut (IsElement f Is) (items_of bytes (take i spans)) (item_of bytes s) (items_of bytes (drop (i + 1) spans)) ys (subst (λ xs. Each (IsElement f Is) xs ys) (elements_cut bytes spans i s within e) (these ys r)) in
       none cut.1 cut.5
 
   pub all_read : (ys : List T) → length spans ≤ limit → Each (IsElement f Is) (items_of bytes spans) ys → AreElements f Is limit bytes ys
@@ -102,8 +102,8 @@ pub name_twice : OneReading → (bytes : List ℕ) (spans : List (FieldId × Spa
     (ys : List Parameter) → AreParameters bytes ys → ⊥
 name_twice one bytes spans i s done p array within e h r twice ys (are, differ) =
     let cut : (c : List Parameter) × (y : Parameter) × (d : List Parameter) × (ys ≡ c ++ y ∷ d) × Each (IsElement names.hook_parameter ParameterIs) (items_of bytes (take i spans)) c × IsElement names.hook_parameter ParameterIs (item_of bytes s) y =
-      each_cut (IsElement names.hook_parameter ParameterIs) (items_of bytes (take i spans)) (item_of bytes s) (items_of bytes (drop (i + 1) spans)) ys
-        (subst (λ xs. Each (IsElement names.hook_parameter ParameterIs) xs ys) (elements_cut bytes spans i s within e) (these one names.hook_parameter ParameterIs 16 bytes spans array ys are)) in
+    each_cut (IsElement names.hook_parameter ParameterIs) (items_of bytes (take i spans)) (item_of bytes s) (items_of bytes (drop (i + 1) spans)) ys
+    (subst (λ xs. Each (IsElement names.hook_parameter ParameterIs) xs ys) (elements_cut bytes spans i s within e) (these one names.hook_parameter ParameterIs 16 bytes spans array ys are)) in
     let front : cut.0 ≡ done = each_same (IsElement names.hook_parameter ParameterIs) (one_parameter one) (items_of bytes (take i spans)) cut.0 done cut.4 h in
     let own : cut.1 ≡ p = one_parameter one (item_of bytes s) cut.1 p cut.5 r in
     twice (subst (λ (q : Parameter). Differs q.name done) own (subst (Differs cut.1.name) front (differ_at [] cut.0 cut.1 cut.2 (subst (AllDiffer []) cut.3 differ))))
@@ -130,8 +130,8 @@ pub more_read : {T : Type 0} (f : FieldId) (Is : List Item → T → Type 0) (by
     Each (IsElement f Is) (items_of bytes (take i spans)) done → IsElement f Is (item_of bytes (get_or spans i d)) y → now ≡ done ++ y ∷ [] → Each (IsElement f Is) (items_of bytes (take (i + 1) spans)) now
 more_read f Is bytes spans i d done now y within h r e =
     subst (λ ys. Each (IsElement f Is) (items_of bytes (take (i + 1) spans)) ys) (sym e)
-      (subst (λ xs. Each (IsElement f Is) xs (done ++ y ∷ [])) (sym (elements_more bytes spans i (get_or spans i d) within (get_or_same spans i d within)))
-        (each_push (IsElement f Is) (items_of bytes (take i spans)) (item_of bytes (get_or spans i d)) done y h r))
+    (subst (λ xs. Each (IsElement f Is) xs (done ++ y ∷ [])) (sym (elements_more bytes spans i (get_or spans i d) within (get_or_same spans i d within)))
+    (each_push (IsElement f Is) (items_of bytes (take i spans)) (item_of bytes (get_or spans i d)) done y h r))
 
 pub refused_there : {T : Type 0} (one : OneReading) (f : FieldId) (Is : List Item → T → Type 0) (limit : ℕ) (bytes : List ℕ) (spans : List (FieldId × Span)) (i : ℕ) (d : FieldId × Span) → IsArray (items_of bytes spans) bytes → i < length spans →
     ((y : T) → IsElement f Is (item_of bytes (get_or spans i d)) y → ⊥) → (ys : List T) → AreElements f Is limit bytes ys → ⊥
@@ -145,8 +145,12 @@ twice_there one bytes spans i d done p array within h r twice ys are = name_twic
 pub whole_read : {T : Type 0} (f : FieldId) (Is : List Item → T → Type 0) (limit : ℕ) (bytes : List ℕ) (spans : List (FieldId × Span)) (i : ℕ) (ys : List T) → IsArray (items_of bytes spans) bytes → length spans ≤ limit → length spans ≤ i →
     Each (IsElement f Is) (items_of bytes (take i spans)) ys → AreElements f Is limit bytes ys
 whole_read f Is limit bytes spans i ys array few past h =
-    record { elements = items_of bytes spans; array = array; few = omega (arith, length-map spans (item_of bytes));
-      each = subst (λ xs. Each (IsElement f Is) (items_of bytes xs) ys) (take_all i spans past) h }
+    record {
+      elements = items_of bytes spans;
+      array = array;
+      few = omega (arith, length-map spans (item_of bytes));
+      each = subst (λ xs. Each (IsElement f Is) (items_of bytes xs) ys) (take_all i spans past) h;
+    }
 
 each-length : {T : Type 0} (R : Item → T → Type 0) (xs : List Item) (ys : List T) → Each R xs ys → length xs ≡ length ys
 each-length R [] [] h = refl

@@ -17,17 +17,28 @@ pub listed : (fits : Form → List ℕ → Type 0) (array : Bool) (last : ℕ) (
     ListFits fits array last items × (bytes ≡ spell items)
 listed fits array last [] bytes h = (tt, h)
 listed fits array last (x ∷ xs) bytes (tail, s, h) =
-    let more : ListFits fits array (number x.field) xs × (tail ≡ spell xs) = listed fits array (number x.field) xs tail h in
-    ((record { form = s.form; is = s.head.is; known = s.head.known; allowed = s.head.allowed; value = s.value }, more.0),
-     s.head.whole ∙ ap (λ t. header x.field ++ (body s.form x.value ++ t)) more.1 ∙ ap (λ o. header x.field ++ (body_of o x.value ++ spell xs)) (sym s.head.known))
+    let more : ListFits fits array (number x.field) xs × (tail ≡ spell xs) = listed fits array (number x.field) xs tail h in (
+      (record { form = s.form; is = s.head.is; known = s.head.known; allowed = s.head.allowed; value = s.value }, more.0),
+      s.head.whole ∙ ap (λ t. header x.field ++ (body s.form x.value ++ t)) more.1 ∙ ap (λ o. header x.field ++ (body_of o x.value ++ spell xs)) (sym s.head.known),
+    )
 
 -- a list that fits is spelled
 pub spelled : (fits : Form → List ℕ → Type 0) (array : Bool) (last : ℕ) (items : List Item) → ListFits fits array last items → Goes fits array last items (spell items) (λ _ rest. rest ≡ [])
 spelled fits array last [] h = refl
-spelled fits array last (x ∷ xs) (f, h) =
-    (spell xs, record { form = f.form; value = f.value; head = record { is = f.is; known = f.known; allowed = f.allowed;
-      whole = ap (λ o. header x.field ++ (body_of o x.value ++ spell xs)) f.known } },
-     spelled fits array (number x.field) xs h)
+spelled fits array last (x ∷ xs) (f, h) = (
+  spell xs,
+  record {
+    form = f.form;
+    value = f.value;
+    head = record {
+      is = f.is;
+      known = f.known;
+      allowed = f.allowed;
+      whole = ap (λ o. header x.field ++ (body_of o x.value ++ spell xs)) f.known;
+    };
+  },
+  spelled fits array (number x.field) xs h,
+)
 
 pub spelling_one : OneSpelling
 spelling_one = (λ items bytes h. listed (IsValue 10) false 0 items bytes h, λ items h. spelled (IsValue 10) false 0 items h)
@@ -72,14 +83,16 @@ with_fits fits x last (y ∷ ys) f (g, h) = first (λ later. with_fits fits x (n
   where
     again : number y.field < number x.field → Fits fits false (number y.field) x
     again lt = record { form = f.form; is = f.is; known = f.known; allowed = lt; value = f.value }
+
     second : (Fits fits false (number y.field) x → ListFits fits false (number y.field) (with_item x ys)) → (less : Bool) → nat_lt (number y.field) (number x.field) ≡ less → number y.field ≤ number x.field → ListFits fits false last (if less then y ∷ with_item x ys else x ∷ ys)
     second rest true e le = let lt : number y.field < number x.field = grind (arith, nat_tests) in (g, rest (again lt))
     second rest false e le = let same : number y.field ≡ number x.field = grind (arith, nat_tests) in (f, subst (λ n. ListFits fits false n ys) same h)
+
     first : (Fits fits false (number y.field) x → ListFits fits false (number y.field) (with_item x ys)) → (less : Bool) → nat_lt (number x.field) (number y.field) ≡ less →
         ListFits fits false last (if less then x ∷ y ∷ ys else if nat_lt (number y.field) (number x.field) then y ∷ with_item x ys else x ∷ ys)
     first rest true e =
-      let lt : number x.field < number y.field = grind (arith, nat_tests) in
-      (f, (record { form = g.form; is = g.is; known = g.known; allowed = lt; value = g.value }, h))
+        let lt : number x.field < number y.field = grind (arith, nat_tests) in
+        (f, (record { form = g.form; is = g.is; known = g.known; allowed = lt; value = g.value }, h))
     first rest false e = second rest (nat_lt (number y.field) (number x.field)) refl (grind (arith, nat_tests))
 
 pub edits_fit : Edits

@@ -45,9 +45,10 @@ pub record OneBody (fits : Form → List ℕ → Type 0) (inside : Form → List
 
 -- lists of one length that go on to one list
 pub split_same : (p q x y : List ℕ) → length p ≡ length q → p ++ x ≡ q ++ y → (p ≡ q) × (x ≡ y)
-split_same p q x y l e =
-    (sym (take_at p x (length p) refl) ∙ ap (take (length p)) e ∙ take_at q y (length p) (sym l),
-     sym (drop_at p x (length p) refl) ∙ ap (drop (length p)) e ∙ drop_at q y (length p) (sym l))
+split_same p q x y l e = (
+  sym (take_at p x (length p) refl) ∙ ap (take (length p)) e ∙ take_at q y (length p) (sym l),
+  sym (drop_at p x (length p) refl) ∙ ap (drop (length p)) e ∙ drop_at q y (length p) (sym l),
+)
 
 -- forms of one kind are one
 same_form : (kind : ℕ) (form other : Form) → form_at kind ≡ Some form → form_at kind ≡ Some other → form ≡ other
@@ -84,9 +85,9 @@ module _ (below : Below) (fits : Form → List ℕ → Type 0) (inside : Form �
   one_stands : (array : Bool) (last : ℕ) (x y : Item) (bytes tail more : List ℕ) → Stands fits array last x bytes tail → Stands fits array last y bytes more → (x ≡ y) × (tail ≡ more)
   one_stands array last x y bytes tail more s t =
       let e : (x.field ≡ y.field) × (s.form ≡ t.form) × (body s.form x.value ++ tail ≡ body t.form y.value ++ more) =
-        one_head below array last x.field y.field s.form t.form bytes (body s.form x.value ++ tail) (body t.form y.value ++ more) s.head t.head in
+      one_head below array last x.field y.field s.form t.form bytes (body s.form x.value ++ tail) (body t.form y.value ++ more) s.head t.head in
       let v : (x.value ≡ y.value) × (tail ≡ more) =
-        (one t.form).value x.value y.value tail more (subst (λ form. fits form x.value) e.1 s.value) t.value (sym (ap (λ form. body form x.value ++ tail) e.1) ∙ e.2) in
+      (one t.form).value x.value y.value tail more (subst (λ form. fits form x.value) e.1 s.value) t.value (sym (ap (λ form. body form x.value ++ tail) e.1) ∙ e.2) in
       (ap (λ f. item f x.value) e.0 ∙ ap (λ w. item y.field w) v.0, v.1)
 
   stands_clear : (array : Bool) (last : ℕ) (x : Item) (bytes tail : List ℕ) (fault : ObjectFault) → Stands fits array last x bytes tail → FieldFails inside array last bytes fault → ⊥
@@ -147,7 +148,7 @@ module _ (below : Below) (fits : Form → List ℕ → Type 0) (inside : Form �
   one_comes place last (x ∷ xs) (y ∷ ys) bytes o p (tail, s, h) (later, t, k) =
       let same : (x ≡ y) × (tail ≡ later) = one_stands below fits inside one (is_array place) last x y bytes tail later s t in
       let k_there : Comes fits inside place (number x.field) ys tail p =
-        subst (λ r. Comes fits inside place (number x.field) ys r p) (sym same.1) (subst (λ (i : Item). Comes fits inside place (number i.field) ys later p) (sym same.0) k) in
+      subst (λ r. Comes fits inside place (number x.field) ys r p) (sym same.1) (subst (λ (i : Item). Comes fits inside place (number i.field) ys later p) (sym same.0) k) in
       let rest : (xs ≡ ys) × (o ≡ p) = one_comes place (number x.field) xs ys tail o p h k_there in
       (ap (λ i. i ∷ xs) same.0 ∙ ap (λ r. y ∷ r) rest.0, rest.1)
 
@@ -172,11 +173,11 @@ one_amount_fault (amounts.Amount a size) f g h k = absurd h
 money_one : Below → (room : ℕ) → OneBody (IsValue room) (BodyFails room) Money
 money_one below room = record {
   value = λ v w rest more (a, valid, is) (b, also, it) e.
-    let same : (a ≡ b) × (rest ≡ more) = below.amount a b rest more valid also (ap (λ x. x ++ rest) (sym is) ∙ e ∙ ap (λ x. x ++ more) it) in
-    (is ∙ ap amount_bytes same.0 ∙ sym it, same.1);
+      let same : (a ≡ b) × (rest ≡ more) = below.amount a b rest more valid also (ap (λ x. x ++ rest) (sym is) ∙ e ∙ ap (λ x. x ++ more) it) in
+      (is ∙ ap amount_bytes same.0 ∙ sym it, same.1);
   clear = λ v rest fault is (read, gives, h). begins_amount v rest is read gives fault h;
   fault = λ bytes f g (read, gives, h) (other, also, k).
-    one_amount_fault read f g h (subst (λ r. AmountFault r g) (below.amount_read bytes other read also gives) k);
+      one_amount_fault read f g h (subst (λ r. AmountFault r g) (below.amount_read bytes other read also gives) k);
 }
 
 -- what a reader finds where a length stands
@@ -199,23 +200,23 @@ one_account_fault bytes (lengths.Length n size) f g (inr h) (inr k) = h.2 ∙ sy
 prefixed_value : Below → (v w rest more : List ℕ) → length v ≤ 918744 → length w ≤ 918744 → (prefix (length v) ++ v) ++ rest ≡ (prefix (length w) ++ w) ++ more → (v ≡ w) × (rest ≡ more)
 prefixed_value below v w rest more h k e =
     let same : (length v ≡ length w) × (v ++ rest ≡ w ++ more) =
-      below.length (length v) (length w) (v ++ rest) (w ++ more) h k (sym (append_assoc (prefix (length v)) v rest) ∙ e ∙ append_assoc (prefix (length w)) w more) in
+    below.length (length v) (length w) (v ++ rest) (w ++ more) h k (sym (append_assoc (prefix (length v)) v rest) ∙ e ∙ append_assoc (prefix (length w)) w more) in
     split_same v w rest more same.0 same.1
 
 prefixed_read : Below → (v rest : List ℕ) → length v ≤ 918744 → (read : LengthRead) → LengthGives ((prefix (length v) ++ v) ++ rest) read → read ≡ lengths.Length (length v) (length (prefix (length v)))
 prefixed_read below v rest small read gives =
     below.length_read (prefix (length v) ++ (v ++ rest)) read (lengths.Length (length v) (length (prefix (length v))))
-      (subst (λ b. LengthGives b read) (append_assoc (prefix (length v)) v rest) gives) (length_there (length v) (v ++ rest) small)
+    (subst (λ b. LengthGives b read) (append_assoc (prefix (length v)) v rest) gives) (length_there (length v) (v ++ rest) small)
 
 blob_one : Below → (room : ℕ) → OneBody (IsValue room) (BodyFails room) Blob
 blob_one below room = record {
   value = λ v w rest more h k e. prefixed_value below v w rest more h k e;
   clear = λ v rest fault small (read, gives, h).
-    let there : BlobFault ((prefix (length v) ++ v) ++ rest) (lengths.Length (length v) (length (prefix (length v)))) fault =
+      let there : BlobFault ((prefix (length v) ++ v) ++ rest) (lengths.Length (length v) (length (prefix (length v)))) fault =
       subst (λ r. BlobFault ((prefix (length v) ++ v) ++ rest) r fault) (prefixed_read below v rest small read gives) h in
-    omega (arith, there.0, length-append (prefix (length v) ++ v) rest, length-append (prefix (length v)) v);
+      omega (arith, there.0, length-append (prefix (length v) ++ v) rest, length-append (prefix (length v)) v);
   fault = λ bytes f g (read, gives, h) (other, also, k).
-    one_blob_fault bytes read f g h (subst (λ r. BlobFault bytes r g) (below.length_read bytes other read also gives) k);
+      one_blob_fault bytes read f g h (subst (λ r. BlobFault bytes r g) (below.length_read bytes other read also gives) k);
 }
 
 account_clear : (v rest : List ℕ) (fault : ObjectFault) → length v ≡ 20 → AccountFault ((prefix (length v) ++ v) ++ rest) (lengths.Length (length v) (length (prefix (length v)))) fault → ⊥
@@ -226,9 +227,9 @@ account_one : Below → (room : ℕ) → OneBody (IsValue room) (BodyFails room)
 account_one below room = record {
   value = λ v w rest more h k e. prefixed_value below v w rest more (omega arith) (omega arith) e;
   clear = λ v rest fault l (read, gives, h).
-    account_clear v rest fault l (subst (λ r. AccountFault ((prefix (length v) ++ v) ++ rest) r fault) (prefixed_read below v rest (omega arith) read gives) h);
+      account_clear v rest fault l (subst (λ r. AccountFault ((prefix (length v) ++ v) ++ rest) r fault) (prefixed_read below v rest (omega arith) read gives) h);
   fault = λ bytes f g (read, gives, h) (other, also, k).
-    one_account_fault bytes read f g h (subst (λ r. AccountFault bytes r g) (below.length_read bytes other read also gives) k);
+      one_account_fault bytes read f g h (subst (λ r. AccountFault bytes r g) (below.length_read bytes other read also gives) k);
 }
 
 -- a nested object or array is one, as its fields are
@@ -236,18 +237,18 @@ module _ (below : Below) (room : ℕ) (one : (form : Form) → OneBody (IsValue 
   object_comes : (items : List Item) (v rest : List ℕ) → Whole (IsValue room) false items v → Comes (IsValue room) (BodyFails room) NestedFields 0 items ((v ++ 225 ∷ []) ++ rest) (ends rest)
   object_comes items v rest h =
       subst (λ b. Comes (IsValue room) (BodyFails room) NestedFields 0 items b (ends rest)) (sym (append_assoc v (225 ∷ []) rest))
-        (disclosed (IsValue room) false 0 items v (225 ∷ rest) h)
+      (disclosed (IsValue room) false 0 items v (225 ∷ rest) h)
 
   array_comes : (items : List Item) (v rest : List ℕ) → Whole (IsValue room) true items v → Comes (IsValue room) (BodyFails room) NestedElements 0 items ((v ++ 241 ∷ []) ++ rest) (ends rest)
   array_comes items v rest h =
       subst (λ b. Comes (IsValue room) (BodyFails room) NestedElements 0 items b (ends rest)) (sym (append_assoc v (241 ∷ []) rest))
-        (disclosed (IsValue room) true 0 items v (241 ∷ rest) h)
+      (disclosed (IsValue room) true 0 items v (241 ∷ rest) h)
 
   nested_value : (place : Place) (a b : List Item) (v w rest more : List ℕ) (mark : ℕ) → Comes (IsValue room) (BodyFails room) place 0 a ((v ++ mark ∷ []) ++ rest) (ends rest) →
       Comes (IsValue room) (BodyFails room) place 0 b ((w ++ mark ∷ []) ++ more) (ends more) → (v ++ mark ∷ []) ++ rest ≡ (w ++ mark ∷ []) ++ more → (v ≡ w) × (rest ≡ more)
   nested_value place a b v w rest more mark h k e =
       let same : (a ≡ b) × (ends rest ≡ ends more) =
-        one_comes below (IsValue room) (BodyFails room) one place 0 a b ((v ++ mark ∷ []) ++ rest) (ends rest) (ends more) h (subst (λ x. Comes (IsValue room) (BodyFails room) place 0 b x (ends more)) (sym e) k) in
+      one_comes below (IsValue room) (BodyFails room) one place 0 a b ((v ++ mark ∷ []) ++ rest) (ends rest) (ends more) h (subst (λ x. Comes (IsValue room) (BodyFails room) place 0 b x (ends more)) (sym e) k) in
       let rests : rest ≡ more = let s : ends rest ≡ ends more = same.1 in cc in
       let fronts : v ++ mark ∷ [] ≡ w ++ mark ∷ [] = append_cancel_right (v ++ mark ∷ []) (w ++ mark ∷ []) more (ap (λ x. (v ++ mark ∷ []) ++ x) (sym rests) ∙ e) in
       (append_cancel_right v w (mark ∷ []) fronts, rests)
@@ -290,6 +291,7 @@ pub one_way : Below → OneReading
 one_way below room place a b bytes o p h k = one_comes below (IsValue room) (BodyFails room) (one_body below room) place 0 a b bytes o p h k
 
 pub one_first : Below → OneField
-one_first below room array last bytes x tail s =
-    (λ y more t. one_stands below (IsValue room) (BodyFails room) (one_body below room) array last x y bytes tail more s t,
-     λ fault h. stands_clear below (IsValue room) (BodyFails room) (one_body below room) array last x bytes tail fault s h)
+one_first below room array last bytes x tail s = (
+  λ y more t. one_stands below (IsValue room) (BodyFails room) (one_body below room) array last x y bytes tail more s t,
+  λ fault h. stands_clear below (IsValue room) (BodyFails room) (one_body below room) array last x bytes tail fault s h,
+)

@@ -40,9 +40,11 @@ pub value_after : (bytes : List ℕ) (at n size : ℕ) → LengthGives (drop at 
 value_after bytes at n size h there within =
     let v : part bytes (at + size) (at + size + n) ≡ take n (drop (at + size) bytes) = part_is bytes (at + size) (at + size + n) n refl in
     let l : length (part bytes (at + size) (at + size + n)) ≡ n = omega (arith, ap length v, length-take n (drop (at + size) bytes), length-drop (at + size) bytes) in
-    let rest : drop (at + size) bytes ≡ part bytes (at + size) (at + size + n) ++ drop (at + size + n) bytes = split_at bytes (part bytes (at + size) (at + size + n)) (at + size) n (sym v) in
-    (l, split_at bytes (prefix n) at size h.2 ∙ ap (λ x. prefix n ++ x) rest ∙ sym (append_assoc (prefix n) (part bytes (at + size) (at + size + n)) (drop (at + size + n) bytes))
-      ∙ ap (λ m. (prefix m ++ part bytes (at + size) (at + size + n)) ++ drop (at + size + n) bytes) (sym l))
+    let rest : drop (at + size) bytes ≡ part bytes (at + size) (at + size + n) ++ drop (at + size + n) bytes = split_at bytes (part bytes (at + size) (at + size + n)) (at + size) n (sym v) in (
+      l,
+      split_at bytes (prefix n) at size h.2 ∙ ap (λ x. prefix n ++ x) rest ∙ sym (append_assoc (prefix n) (part bytes (at + size) (at + size + n)) (drop (at + size + n) bytes))
+          ∙ ap (λ m. (prefix m ++ part bytes (at + size) (at + size + n)) ++ drop (at + size + n) bytes) (sym l),
+    )
 
 pub blob_valued : (bytes : List ℕ) (at n size : ℕ) → LengthGives (drop at bytes) (lengths.Length n size) → n ≤ length bytes - (at + size) → at ≤ length bytes →
     Valued 0 Blob (drop at bytes) (part bytes (at + size) (at + size + n)) (drop (at + size + n) bytes)
@@ -54,7 +56,7 @@ pub account_valued : (bytes : List ℕ) (at n size : ℕ) → LengthGives (drop 
     Valued 0 Account (drop at bytes) (part bytes (at + size) (at + size + 20)) (drop (at + size + 20) bytes)
 account_valued bytes at n size h twenty there within =
     let v : (length (part bytes (at + size) (at + size + 20)) ≡ 20) × (drop at bytes ≡ (prefix (length (part bytes (at + size) (at + size + 20))) ++ part bytes (at + size) (at + size + 20)) ++ drop (at + size + 20) bytes) =
-      value_after bytes at 20 size (subst (λ m. LengthGives (drop at bytes) (lengths.Length m size)) twenty h) there within in
+    value_after bytes at 20 size (subst (λ m. LengthGives (drop at bytes) (lengths.Length m size)) twenty h) there within in
     record { fits = v.0; whole = v.1 }
 
 -- where what is asked at the end follows from what was asked there
@@ -68,20 +70,30 @@ pub enclosed : (fits : Form → List ℕ → Type 0) (array : Bool) (last : ℕ)
     Goes fits array last items bytes (λ _ rest. rest ≡ after) → (value : List ℕ) × Goes fits array last items value (λ _ rest. rest ≡ []) × (bytes ≡ value ++ after)
 enclosed fits array last [] bytes after h = ([], refl, h)
 enclosed fits array last (x ∷ xs) bytes after (tail, s, h) =
-    let more : (value : List ℕ) × Goes fits array (number x.field) xs value (λ _ rest. rest ≡ []) × (tail ≡ value ++ after) = enclosed fits array (number x.field) xs tail after h in
-    (header x.field ++ (body s.form x.value ++ more.0),
-     (more.0, record { form = s.form; head = record { is = s.head.is; known = s.head.known; whole = refl; allowed = s.head.allowed }; value = s.value }, more.1),
-     s.head.whole ∙ ap (λ t. header x.field ++ (body s.form x.value ++ t)) more.2 ∙ ap (λ t. header x.field ++ t) (sym (append_assoc (body s.form x.value) more.0 after)) ∙ sym (append_assoc (header x.field) (body s.form x.value ++ more.0) after))
+    let more : (value : List ℕ) × Goes fits array (number x.field) xs value (λ _ rest. rest ≡ []) × (tail ≡ value ++ after) = enclosed fits array (number x.field) xs tail after h in (
+      header x.field ++ (body s.form x.value ++ more.0),
+      (more.0, record { form = s.form; head = record { is = s.head.is; known = s.head.known; whole = refl; allowed = s.head.allowed }; value = s.value }, more.1),
+      s.head.whole ∙ ap (λ t. header x.field ++ (body s.form x.value ++ t)) more.2 ∙ ap (λ t. header x.field ++ t) (sym (append_assoc (body s.form x.value) more.0 after)) ∙ sym (append_assoc (header x.field) (body s.form x.value ++ more.0) after),
+    )
 
 -- fields alone are fields before an end
 pub disclosed : (fits : Form → List ℕ → Type 0) (array : Bool) (last : ℕ) (items : List Item) (value after : List ℕ) →
     Goes fits array last items value (λ _ rest. rest ≡ []) → Goes fits array last items (value ++ after) (λ _ rest. rest ≡ after)
 disclosed fits array last [] value after h = ap (λ x. x ++ after) h
-disclosed fits array last (x ∷ xs) value after (tail, s, h) =
-    (tail ++ after,
-     record { form = s.form; head = record { is = s.head.is; known = s.head.known; allowed = s.head.allowed;
-       whole = ap (λ t. t ++ after) s.head.whole ∙ append_assoc (header x.field) (body s.form x.value ++ tail) after ∙ ap (λ t. header x.field ++ t) (append_assoc (body s.form x.value) tail after) }; value = s.value },
-     disclosed fits array (number x.field) xs tail after h)
+disclosed fits array last (x ∷ xs) value after (tail, s, h) = (
+  tail ++ after,
+  record {
+    form = s.form;
+    head = record {
+      is = s.head.is;
+      known = s.head.known;
+      allowed = s.head.allowed;
+      whole = ap (λ t. t ++ after) s.head.whole ∙ append_assoc (header x.field) (body s.form x.value ++ tail) after ∙ ap (λ t. header x.field ++ t) (append_assoc (body s.form x.value) tail after);
+    };
+    value = s.value;
+  },
+  disclosed fits array (number x.field) xs tail after h,
+)
 
 -- nested fields, and the value that they are
 marked : (bytes value : List ℕ) (at next mark : ℕ) → drop at bytes ≡ value ++ (mark ∷ drop next bytes) → at ≤ length bytes → next ≤ length bytes →
@@ -98,10 +110,14 @@ object_valued (suc room) bytes at next some within enough h =
     let same : suc room - 1 ≡ room = omega arith in
     let r : Reads room NestedFields 0 (drop at bytes) (ends (drop next bytes)) = subst (λ n. Reads n NestedFields 0 (drop at bytes) (ends (drop next bytes))) same h in
     let v : (value : List ℕ) × Goes (IsValue room) false 0 r.0 value (λ _ rest. rest ≡ []) × (drop at bytes ≡ value ++ (225 ∷ drop next bytes)) =
-      enclosed (IsValue room) false 0 r.0 (drop at bytes) (225 ∷ drop next bytes) r.1 in
-    let m : (at < next) × (part bytes at (next - 1) ≡ v.0) = marked bytes v.0 at next 225 v.2 within enough in
-    (m.0, record { fits = (r.0, subst (λ x. Whole (IsValue room) false r.0 x) (sym m.1) v.1);
-      whole = v.2 ∙ ap (λ x. x ++ (225 ∷ drop next bytes)) (sym m.1) ∙ sym (append_assoc (part bytes at (next - 1)) (225 ∷ []) (drop next bytes)) })
+    enclosed (IsValue room) false 0 r.0 (drop at bytes) (225 ∷ drop next bytes) r.1 in
+    let m : (at < next) × (part bytes at (next - 1) ≡ v.0) = marked bytes v.0 at next 225 v.2 within enough in (
+      m.0,
+      record {
+        fits = (r.0, subst (λ x. Whole (IsValue room) false r.0 x) (sym m.1) v.1);
+        whole = v.2 ∙ ap (λ x. x ++ (225 ∷ drop next bytes)) (sym m.1) ∙ sym (append_assoc (part bytes at (next - 1)) (225 ∷ []) (drop next bytes));
+      },
+    )
 
 pub array_valued : (room : ℕ) (bytes : List ℕ) (at next : ℕ) → 0 < room → at ≤ length bytes → next ≤ length bytes → Reads (room - 1) NestedElements 0 (drop at bytes) (ends (drop next bytes)) →
     (at < next) × Valued room Array (drop at bytes) (part bytes at (next - 1)) (drop next bytes)
@@ -110,10 +126,14 @@ array_valued (suc room) bytes at next some within enough h =
     let same : suc room - 1 ≡ room = omega arith in
     let r : Reads room NestedElements 0 (drop at bytes) (ends (drop next bytes)) = subst (λ n. Reads n NestedElements 0 (drop at bytes) (ends (drop next bytes))) same h in
     let v : (value : List ℕ) × Goes (IsValue room) true 0 r.0 value (λ _ rest. rest ≡ []) × (drop at bytes ≡ value ++ (241 ∷ drop next bytes)) =
-      enclosed (IsValue room) true 0 r.0 (drop at bytes) (241 ∷ drop next bytes) r.1 in
-    let m : (at < next) × (part bytes at (next - 1) ≡ v.0) = marked bytes v.0 at next 241 v.2 within enough in
-    (m.0, record { fits = (r.0, subst (λ x. Whole (IsValue room) true r.0 x) (sym m.1) v.1);
-      whole = v.2 ∙ ap (λ x. x ++ (241 ∷ drop next bytes)) (sym m.1) ∙ sym (append_assoc (part bytes at (next - 1)) (241 ∷ []) (drop next bytes)) })
+    enclosed (IsValue room) true 0 r.0 (drop at bytes) (241 ∷ drop next bytes) r.1 in
+    let m : (at < next) × (part bytes at (next - 1) ≡ v.0) = marked bytes v.0 at next 241 v.2 within enough in (
+      m.0,
+      record {
+        fits = (r.0, subst (λ x. Whole (IsValue room) true r.0 x) (sym m.1) v.1);
+        whole = v.2 ∙ ap (λ x. x ++ (241 ∷ drop next bytes)) (sym m.1) ∙ sym (append_assoc (part bytes at (next - 1)) (241 ∷ []) (drop next bytes));
+      },
+    )
 
 pub object_fails : (room : ℕ) (bytes : List ℕ) (fault : ObjectFault) → 0 < room → Reads (room - 1) NestedFields 0 bytes (fails fault) → BodyFails room Object bytes fault
 object_fails zero bytes fault some h = absurd (omega arith)

@@ -45,9 +45,9 @@ value_fits last (x ∷ xs) f form v (g, h) k e = ways (is_same x.field f) refl e
   where
     ways : (same : Bool) → is_same x.field f ≡ same → (if same then Some x.value else lookup f xs) ≡ Some v → (lookup f xs ≡ Some v → IsValue 10 form v) → IsValue 10 form v
     ways true s found later =
-      let kinds : x.field.kind ≡ f.kind = kind_same x.field f s in
-      let forms : g.form ≡ form = some_same g.form form (sym g.known ∙ ap form_at kinds ∙ k) in
-      subst (IsValue 10 form) (value_same x.value v found) (subst (λ o. IsValue 10 o x.value) forms g.value)
+        let kinds : x.field.kind ≡ f.kind = kind_same x.field f s in
+        let forms : g.form ≡ form = some_same g.form form (sym g.known ∙ ap form_at kinds ∙ k) in
+        subst (IsValue 10 form) (value_same x.value v found) (subst (λ o. IsValue 10 o x.value) forms g.value)
     ways false s found later = later found
 
 pub lookup_fits : (bytes : List ℕ) (fields : List Item) (f : FieldId) (form : Form) (v : List ℕ) → IsObject fields bytes → form_at f.kind ≡ Some form → lookup f fields ≡ Some v → IsValue 10 form v
@@ -68,7 +68,7 @@ one_list one a b bytes h k =
 pub amount_of : OneAmount → (value : List ℕ) (a : Amount) (size : ℕ) → IsAmount value → AmountGives value (amounts.Amount a size) → IsValid a × (value ≡ amount_bytes a)
 amount_of one value a size (b, valid, is) h =
     let rest : (a ≡ b) × (drop size value ≡ []) =
-      one a b (drop size value) [] h.0 valid (ap (λ x. x ++ drop size value) (sym h.2) ∙ take-append-drop size value ∙ is ∙ sym (append-nil (amount_bytes b))) in
+    one a b (drop size value) [] h.0 valid (ap (λ x. x ++ drop size value) (sym h.2) ∙ take-append-drop size value ∙ is ∙ sym (append-nil (amount_bytes b))) in
     (h.0, is ∙ sym (ap amount_bytes rest.0))
 
 pub amount_begins : (value : List ℕ) → IsAmount value → Begins IsAmount value

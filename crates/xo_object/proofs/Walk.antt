@@ -28,7 +28,7 @@ pub spell-append : (a b : List Item) → spell (a ++ b) ≡ spell a ++ spell b
 spell-append [] b = refl
 spell-append (x ∷ xs) b =
     ap (λ t. header x.field ++ (body_of (form_at x.field.kind) x.value ++ t)) (spell-append xs b)
-      ∙ ap (λ t. header x.field ++ t) (sym (append_assoc (body_of (form_at x.field.kind) x.value) (spell xs) (spell b))) ∙ sym (append_assoc (header x.field) (body_of (form_at x.field.kind) x.value ++ spell xs) (spell b))
+    ∙ ap (λ t. header x.field ++ t) (sym (append_assoc (body_of (form_at x.field.kind) x.value) (spell xs) (spell b))) ∙ sym (append_assoc (header x.field) (body_of (form_at x.field.kind) x.value ++ spell xs) (spell b))
 
 AllBelow-append : (n : ℕ) (a b : List Item) → AllBelow n a → AllBelow n b → AllBelow n (a ++ b)
 AllBelow-append n [] b h k = k
@@ -44,7 +44,7 @@ rising_above fits n last (x ∷ xs) bytes le (tail, s, h) =
 spelled_one : (fits : Form → List ℕ → Type 0) (array : Bool) (last : ℕ) (x : Item) (here tail : List ℕ) → Stands fits array last x here tail → here ≡ spell (x ∷ []) ++ tail
 spelled_one fits array last x here tail s =
     s.head.whole ∙ ap (λ o. header x.field ++ (body_of o x.value ++ tail)) (sym s.head.known)
-      ∙ ap (λ t. header x.field ++ (t ++ tail)) (sym (append-nil (body_of _ x.value))) ∙ sym (append_assoc (header x.field) (body_of _ x.value ++ []) tail)
+    ∙ ap (λ t. header x.field ++ (t ++ tail)) (sym (append-nil (body_of _ x.value))) ∙ sym (append_assoc (header x.field) (body_of _ x.value ++ []) tail)
 
 -- a part of the bytes is what stands between two rests
 between : (bytes front : List ℕ) (at next : ℕ) → at ≤ length bytes → next ≤ length bytes → drop at bytes ≡ front ++ drop next bytes → (at ≤ next) × (part bytes at next ≡ front)
@@ -105,29 +105,36 @@ absent_before one bytes field items last at f form tail b more h less =
     let s : Stands (IsValue 10) false last n.0 (drop at bytes) n.2 = n.4 in
     let same : n.0.field ≡ f = (one n.0.field f (body s.form n.0.value ++ n.2) tail s.head.is h.is (sym s.head.whole ∙ h.whole)).0 in
     let less_there : number field < number n.0.field = omega (arith, ap number same) in
-    let above : AllAbove (number field) n.1 = rising_above (IsValue 10) (number field) (number n.0.field) n.1 n.2 (omega arith) n.5 in
-    (b.before, b.after,
-     record { below = b.below; above = subst (AllAbove (number field)) (sym n.3) (less_there, above); front = b.front; rest = (listed (IsValue 10) false last b.after (drop at bytes) b.stands).1; order = omega arith; within = b.within },
-     b.whole)
+    let above : AllAbove (number field) n.1 = rising_above (IsValue 10) (number field) (number n.0.field) n.1 n.2 (omega arith) n.5 in (
+      b.before,
+      b.after,
+      record { below = b.below; above = subst (AllAbove (number field)) (sym n.3) (less_there, above); front = b.front; rest = (listed (IsValue 10) false last b.after (drop at bytes) b.stands).1; order = omega arith; within = b.within },
+      b.whole,
+    )
 
 pub absent_at_end : (bytes : List ℕ) (field : FieldId) (items : List Item) (last at : ℕ) → Behind bytes field items last at → length bytes ≤ at → Locates bytes field items (Absent at)
 absent_at_end bytes field items last at b past =
-    let none : b.after ≡ [] = left_none (IsValue 10) false last b.after (drop at bytes) (drop_all at bytes past) b.stands in
-    (b.before, b.after,
-     record { below = b.below; above = subst (AllAbove (number field)) (sym none) tt; front = b.front; rest = (listed (IsValue 10) false last b.after (drop at bytes) b.stands).1; order = omega arith; within = b.within },
-     b.whole)
+    let none : b.after ≡ [] = left_none (IsValue 10) false last b.after (drop at bytes) (drop_all at bytes past) b.stands in (
+      b.before,
+      b.after,
+      record { below = b.below; above = subst (AllAbove (number field)) (sym none) tt; front = b.front; rest = (listed (IsValue 10) false last b.after (drop at bytes) b.stands).1; order = omega arith; within = b.within },
+      b.whole,
+    )
 
 -- the item that was passed over is the next
 next_is : OneField → (bytes : List ℕ) (field : FieldId) (items : List Item) (last at : ℕ) (f : FieldId) (form : Form) (tail value : List ℕ) (next : ℕ) → (b : Behind bytes field items last at) → at < length bytes →
     Head false last f form (drop at bytes) tail → Valued 10 form tail value (drop next bytes) →
     (xs : List Item) × (b.after ≡ record { field = f; value = value } ∷ xs) × Stands (IsValue 10) false last (record { field = f; value = value }) (drop at bytes) (drop next bytes)
-      × Goes (IsValue 10) false (number f) xs (drop next bytes) (λ _ rest. rest ≡ [])
+    × Goes (IsValue 10) false (number f) xs (drop next bytes) (λ _ rest. rest ≡ [])
 next_is one bytes field items last at f form tail value next b more h v =
     let n : _ = left_some (IsValue 10) false last b.after (drop at bytes) (some_left bytes at more) b.stands in
     let t : Stands (IsValue 10) false last (record { field = f; value = value }) (drop at bytes) (drop next bytes) = field_stands false 10 last f form (drop at bytes) tail value (drop next bytes) h v in
-    let same : (n.0 ≡ record { field = f; value = value }) × (n.2 ≡ drop next bytes) = (one 10 false last (drop at bytes) n.0 n.2 n.4).0 (record { field = f; value = value }) (drop next bytes) t in
-    (n.1, n.3 ∙ ap (λ x. x ∷ n.1) same.0, t,
-     subst (λ r. Goes (IsValue 10) false (number f) n.1 r (λ _ rest. rest ≡ [])) same.1 (subst (λ (x : Item). Goes (IsValue 10) false (number x.field) n.1 n.2 (λ _ rest. rest ≡ [])) same.0 n.5))
+    let same : (n.0 ≡ record { field = f; value = value }) × (n.2 ≡ drop next bytes) = (one 10 false last (drop at bytes) n.0 n.2 n.4).0 (record { field = f; value = value }) (drop next bytes) t in (
+      n.1,
+      n.3 ∙ ap (λ x. x ∷ n.1) same.0,
+      t,
+      subst (λ r. Goes (IsValue 10) false (number f) n.1 r (λ _ rest. rest ≡ [])) same.1 (subst (λ (x : Item). Goes (IsValue 10) false (number x.field) n.1 n.2 (λ _ rest. rest ≡ [])) same.0 n.5),
+    )
 
 same_field : (f g : FieldId) → f.code < 256 → g.code < 256 → number f ≡ number g → f ≡ g
 same_field f g fc gc e =
@@ -143,11 +150,21 @@ found_here one bytes field items last at f form tail span next b more h v order 
     let n : _ = next_is one bytes field items last at f form tail (part bytes span.from span.to) next b more h v in
     let same : f ≡ field = same_field f field h.is.code_byte small (sym e) in
     let place : (at ≤ next) × (part bytes at next ≡ spell (record { field = f; value = part bytes span.from span.to } ∷ [])) =
-      between bytes (spell (record { field = f; value = part bytes span.from span.to } ∷ [])) at next b.within there (spelled_one (IsValue 10) false last (record { field = f; value = part bytes span.from span.to }) (drop at bytes) (drop next bytes) n.2) in
-    (b.before, n.0,
-     record { below = b.below; above = rising_above (IsValue 10) (number field) (number f) n.0 (drop next bytes) (omega arith) n.3; front = b.front; rest = (listed (IsValue 10) false (number f) n.0 (drop next bytes) n.3).1;
-       order = place.0; within = there },
-     b.whole ∙ ap (λ xs. b.before ++ xs) (n.1 ∙ ap (λ g. record { field = g; value = part bytes span.from span.to } ∷ n.0) same), order, within)
+    between bytes (spell (record { field = f; value = part bytes span.from span.to } ∷ [])) at next b.within there (spelled_one (IsValue 10) false last (record { field = f; value = part bytes span.from span.to }) (drop at bytes) (drop next bytes) n.2) in (
+      b.before,
+      n.0,
+      record {
+        below = b.below;
+        above = rising_above (IsValue 10) (number field) (number f) n.0 (drop next bytes) (omega arith) n.3;
+        front = b.front;
+        rest = (listed (IsValue 10) false (number f) n.0 (drop next bytes) n.3).1;
+        order = place.0;
+        within = there;
+      },
+      b.whole ∙ ap (λ xs. b.before ++ xs) (n.1 ∙ ap (λ g. record { field = g; value = part bytes span.from span.to } ∷ n.0) same),
+      order,
+      within,
+    )
 
 pub behind_more : OneField → (bytes : List ℕ) (field : FieldId) (items : List Item) (last at : ℕ) (f : FieldId) (form : Form) (tail value : List ℕ) (next : ℕ) → Behind bytes field items last at → at < length bytes →
     Head false last f form (drop at bytes) tail → Valued 10 form tail value (drop next bytes) → next ≤ length bytes → number f < number field → Behind bytes field items (number f) next
@@ -157,9 +174,11 @@ behind_more one bytes field items last at f form tail value next b more h v ther
     let place : (at ≤ next) × (part bytes at next ≡ spell (x ∷ [])) = between bytes (spell (x ∷ [])) at next b.within there (spelled_one (IsValue 10) false last x (drop at bytes) (drop next bytes) n.2) in
     let sum : next ≡ at + (next - at) = omega (arith, place.0) in
     record {
-      before = b.before ++ x ∷ []; after = n.0;
+      before = b.before ++ x ∷ [];
+      after = n.0;
       whole = b.whole ∙ ap (λ xs. b.before ++ xs) n.1 ∙ sym (append_assoc b.before (x ∷ []) n.0);
-      stands = n.3; below = AllBelow-append (number field) b.before (x ∷ []) b.below (less, tt);
+      stands = n.3;
+      below = AllBelow-append (number field) b.before (x ∷ []) b.below (less, tt);
       front = ap (λ m. take m bytes) sum ∙ take-add at (next - at) bytes ∙ ap (λ t. t ++ part bytes at next) b.front ∙ ap (λ t. spell b.before ++ t) place.1 ∙ sym (spell-append b.before (x ∷ []));
       within = there;
     }
@@ -197,23 +216,28 @@ no_element_body_fault one bytes elements count at f form tail fault b more h k =
 element_is : OneField → (bytes : List ℕ) (elements : List Item) (count at : ℕ) (f : FieldId) (form : Form) (tail value : List ℕ) (next : ℕ) → (b : Before bytes elements count at) → at < length bytes →
     Head true 0 f form (drop at bytes) tail → Valued 9 form tail value (drop next bytes) →
     (xs : List Item) × (b.after ≡ record { field = f; value = value } ∷ xs) × Stands (IsValue 9) true 0 (record { field = f; value = value }) (drop at bytes) (drop next bytes)
-      × Goes (IsValue 9) true 0 xs (drop next bytes) (λ _ rest. rest ≡ [])
+    × Goes (IsValue 9) true 0 xs (drop next bytes) (λ _ rest. rest ≡ [])
 element_is one bytes elements count at f form tail value next b more h v =
     let n : _ = left_some (IsValue 9) true 0 b.after (drop at bytes) (some_left bytes at more) b.stands in
     let t : Stands (IsValue 9) true 0 (record { field = f; value = value }) (drop at bytes) (drop next bytes) = field_stands true 9 0 f form (drop at bytes) tail value (drop next bytes) h v in
-    let same : (n.0 ≡ record { field = f; value = value }) × (n.2 ≡ drop next bytes) = (one 9 true 0 (drop at bytes) n.0 n.2 n.4).0 (record { field = f; value = value }) (drop next bytes) t in
-    (n.1, n.3 ∙ ap (λ x. x ∷ n.1) same.0, t,
-     subst (λ r. Goes (IsValue 9) true 0 n.1 r (λ _ rest. rest ≡ [])) same.1 (any_last (IsValue 9) (number n.0.field) 0 n.1 n.2 n.5))
+    let same : (n.0 ≡ record { field = f; value = value }) × (n.2 ≡ drop next bytes) = (one 9 true 0 (drop at bytes) n.0 n.2 n.4).0 (record { field = f; value = value }) (drop next bytes) t in (
+      n.1,
+      n.3 ∙ ap (λ x. x ∷ n.1) same.0,
+      t,
+      subst (λ r. Goes (IsValue 9) true 0 n.1 r (λ _ rest. rest ≡ [])) same.1 (any_last (IsValue 9) (number n.0.field) 0 n.1 n.2 n.5),
+    )
 
 pub before_more : OneField → (bytes : List ℕ) (elements : List Item) (count at : ℕ) (f : FieldId) (form : Form) (tail value : List ℕ) (next : ℕ) → Before bytes elements count at → at < length bytes →
     Head true 0 f form (drop at bytes) tail → Valued 9 form tail value (drop next bytes) → next ≤ length bytes → Before bytes elements (count + 1) next
 before_more one bytes elements count at f form tail value next b more h v there =
     let n : _ = element_is one bytes elements count at f form tail value next b more h v in
     record {
-      before = b.before ++ record { field = f; value = value } ∷ []; after = n.0;
+      before = b.before ++ record { field = f; value = value } ∷ [];
+      after = n.0;
       whole = b.whole ∙ ap (λ xs. b.before ++ xs) n.1 ∙ sym (append_assoc b.before (record { field = f; value = value } ∷ []) n.0);
       number = length-append b.before (record { field = f; value = value } ∷ []) ∙ omega (arith, b.number);
-      stands = n.3; within = there;
+      stands = n.3;
+      within = there;
     }
 
 pub passes_all : (bytes : List ℕ) (elements : List Item) (count at wanted : ℕ) → Before bytes elements count at → count ≤ wanted → at ≡ length bytes → Passes bytes elements wanted (record { count = count; at = at })
@@ -243,6 +267,7 @@ counted bytes elements passed h short p =
   where
     full_or_less : (n : ℕ) → n ≤ 4294967295 → (n < 4294967295) ⊎ (n ≡ 4294967295)
     full_or_less n le = grind arith
+
     either_way : (passed.count < 4294967295) ⊎ (passed.count ≡ 4294967295) → length elements ≡ length p.0 + length p.1 → length p.0 ≡ passed.count → (passed.count < 4294967295 → p.1 ≡ []) → length elements ≤ length bytes → passed.count ≡ length elements
     either_way (inl less) total same none few = omega (arith, ap length (none less))
     either_way (inr full) total same none few = omega arith

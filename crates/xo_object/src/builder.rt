@@ -16,7 +16,9 @@ use crate::skip::{Place, skip_fields};
 use hk_base::NoMemory;
 use std::alloc::{AllocError, Global};
 use std::marker::Model;
-use xo_fields::{AmountRead, FieldId, Form, form_of, one_amount, read_amount, write_header, write_length};
+use xo_fields::{
+    AmountRead, FieldId, Form, form_of, one_amount, read_amount, write_header, write_length,
+};
 
 /// Why a field was not put.
 #[derive(Clone, Copy, Debug, PartialEq, Eq)]

@@ -34,7 +34,11 @@ pub fn find_field(bytes: &[u8], field: FieldId) -> Option<Span>
     ensures found { (items : List Item) → IsObject items bytes.now → FindsValue bytes.now (lookup field items) result }
 {
     match locate(bytes, field) {
-        Located::Found { from: _, value, to: _ } => Some(value),
+        Located::Found {
+            from: _,
+            value,
+            to: _,
+        } => Some(value),
         Located::Absent { at: _ } => None,
     }
 }
@@ -65,7 +69,11 @@ pub fn locate(bytes: &[u8], field: FieldId) -> Located
                                 from: value.from,
                                 to: value.to,
                             };
-                            return Located::Found { from: at, value: span, to: value.next };
+                            return Located::Found {
+                                from: at,
+                                value: span,
+                                to: value.next,
+                            };
                         }
                         at = value.next;
                         last = number;

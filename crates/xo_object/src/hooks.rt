@@ -10,7 +10,9 @@ ghost use Rattle.xo_object.specs.Value.{IsArray};
 use crate::laws::one_reading;
 use crate::lists::{copied, given_grants, given_parameters};
 use crate::object::Object;
-use crate::reading::{TransactionFault, has_only, hash_at, nested_array, nested_object, number16_at, number32_at};
+use crate::reading::{
+    TransactionFault, has_only, hash_at, nested_array, nested_object, number16_at, number32_at,
+};
 use crate::span::Span;
 use crate::transaction::{Grant, HookItem, Parameter};
 use hk_base::Items;
@@ -21,12 +23,19 @@ use xo_fields::FieldId;
 const MOST: usize = 10;
 
 const FLAGS: FieldId = FieldId { kind: 2, code: 2 };
+
 const HOOK_API_VERSION: FieldId = FieldId { kind: 1, code: 20 };
+
 const HOOK_ON: FieldId = FieldId { kind: 5, code: 20 };
+
 const HOOK_HASH: FieldId = FieldId { kind: 5, code: 31 };
+
 const HOOK_NAMESPACE: FieldId = FieldId { kind: 5, code: 32 };
+
 const CREATE_CODE: FieldId = FieldId { kind: 7, code: 11 };
+
 const HOOK_PARAMETERS: FieldId = FieldId { kind: 15, code: 19 };
+
 const HOOK_GRANTS: FieldId = FieldId { kind: 15, code: 20 };
 
 /// The items of an array's bytes.
@@ -41,7 +50,11 @@ pub fn read_hooks(alloc: Global, bytes: &[u8]) -> Result<Items<HookItem>, Transa
 }
 
 /// The items of an array's elements.
-fn hooks_of(alloc: Global, bytes: &[u8], elements: &[(FieldId, Span)]) -> Result<Items<HookItem>, TransactionFault>
+fn hooks_of(
+    alloc: Global,
+    bytes: &[u8],
+    elements: &[(FieldId, Span)],
+) -> Result<Items<HookItem>, TransactionFault>
     requires array { IsArray (items_of bytes.now elements.now) bytes.now }
     requires ranges { All (InRange bytes.now) elements.now }
     ensures ok { IfOk result (λ hooks. AreHooks bytes.now hooks) }
@@ -204,7 +217,18 @@ fn create_of(alloc: Global, object: &Object, code: &[u8]) -> Result<HookItem, Tr
     ensures ok { IfOk result (λ item. IsCreate (items object.now) item) }
     ensures malformed { result ≡ Err TransactionFault.Malformed → (item : HookItem) → IsCreate (items object.now) item → ⊥ }
 {
-    if !has_only(object, &[FLAGS, HOOK_ON, HOOK_NAMESPACE, HOOK_API_VERSION, CREATE_CODE, HOOK_PARAMETERS, HOOK_GRANTS]) {
+    if !has_only(
+        object,
+        &[
+            FLAGS,
+            HOOK_ON,
+            HOOK_NAMESPACE,
+            HOOK_API_VERSION,
+            CREATE_CODE,
+            HOOK_PARAMETERS,
+            HOOK_GRANTS,
+        ],
+    ) {
         return Err(TransactionFault::Malformed);
     }
     let version = match number16_at(object, HOOK_API_VERSION) {
@@ -229,14 +253,32 @@ fn create_of(alloc: Global, object: &Object, code: &[u8]) -> Result<HookItem, Tr
     let parameters = given_parameters(alloc, object)?;
     let grants = given_grants(alloc, object)?;
     let code = copied(alloc, code)?;
-    Ok(HookItem::Create { code, version: 0, on, namespace, parameters: parameters_or_none(alloc, parameters), grants: grants_or_none(alloc, grants), replace })
+    Ok(HookItem::Create {
+        code,
+        version: 0,
+        on,
+        namespace,
+        parameters: parameters_or_none(alloc, parameters),
+        grants: grants_or_none(alloc, grants),
+        replace,
+    })
 }
 
 fn install_of(alloc: Global, object: &Object) -> Result<HookItem, TransactionFault>
     ensures ok { IfOk result (λ item. IsInstall (items object.now) item) }
     ensures malformed { result ≡ Err TransactionFault.Malformed → (item : HookItem) → IsInstall (items object.now) item → ⊥ }
 {
-    if !has_only(object, &[FLAGS, HOOK_ON, HOOK_HASH, HOOK_NAMESPACE, HOOK_PARAMETERS, HOOK_GRANTS]) {
+    if !has_only(
+        object,
+        &[
+            FLAGS,
+            HOOK_ON,
+            HOOK_HASH,
+            HOOK_NAMESPACE,
+            HOOK_PARAMETERS,
+            HOOK_GRANTS,
+        ],
+    ) {
         return Err(TransactionFault::Malformed);
     }
     let hash = match hash_at(object, HOOK_HASH) {
@@ -257,14 +299,24 @@ fn install_of(alloc: Global, object: &Object) -> Result<HookItem, TransactionFau
     };
     let parameters = given_parameters(alloc, object)?;
     let grants = given_grants(alloc, object)?;
-    Ok(HookItem::Install { hash, on, namespace, parameters: parameters_or_none(alloc, parameters), grants: grants_or_none(alloc, grants), replace })
+    Ok(HookItem::Install {
+        hash,
+        on,
+        namespace,
+        parameters: parameters_or_none(alloc, parameters),
+        grants: grants_or_none(alloc, grants),
+        replace,
+    })
 }
 
 fn update_of(alloc: Global, object: &Object) -> Result<HookItem, TransactionFault>
     ensures ok { IfOk result (λ item. IsUpdate (items object.now) item) }
     ensures malformed { result ≡ Err TransactionFault.Malformed → (item : HookItem) → IsUpdate (items object.now) item → ⊥ }
 {
-    if !has_only(object, &[FLAGS, HOOK_ON, HOOK_NAMESPACE, HOOK_PARAMETERS, HOOK_GRANTS]) {
+    if !has_only(
+        object,
+        &[FLAGS, HOOK_ON, HOOK_NAMESPACE, HOOK_PARAMETERS, HOOK_GRANTS],
+    ) {
         return Err(TransactionFault::Malformed);
     }
     if let None = replaces(object) {
@@ -277,7 +329,12 @@ fn update_of(alloc: Global, object: &Object) -> Result<HookItem, TransactionFaul
     if on.is_none() && namespace.is_none() && parameters.is_none() && grants.is_none() {
         return Err(TransactionFault::Malformed);
     }
-    Ok(HookItem::Update { on, namespace, parameters, grants })
+    Ok(HookItem::Update {
+        on,
+        namespace,
+        parameters,
+        grants,
+    })
 }
 
 /// The parameters that were given, or none.

@@ -1,6 +1,8 @@
 ghost use Rattle.xo_object.specs.Laws.{OneReading, OneField, OneSpelling, OneArray, MoreRoom, Edits};
 
-use xo_fields::{one_amount, one_amount_read, one_header, one_header_read, one_length, one_length_read};
+use xo_fields::{
+    one_amount, one_amount_read, one_header, one_header_read, one_length, one_length_read,
+};
 
 /// Bytes are read in one way.
 pub fn one_reading()
@@ -29,23 +31,19 @@ pub fn one_field()
 /// One list of fields has one spelling.
 pub fn one_spelling()
     ensures law { OneSpelling }
-{
-}
+{}
 
 /// One list of elements has one spelling.
 pub fn one_array()
     ensures law { OneArray }
-{
-}
+{}
 
 /// Where more may be open, what is a value stays one.
 pub fn more_room()
     ensures law { MoreRoom }
-{
-}
+{}
 
 /// The list without a field, and with one put in its place, is an object's again.
 pub fn edits()
     ensures law { Edits }
-{
-}
+{}

@@ -10,8 +10,10 @@ ghost use Rattle.xo_object.specs.Transaction.{IsElement, ParameterIs, GrantIs, A
 
 use crate::laws::one_reading;
 use crate::object::Object;
+use crate::reading::{
+    TransactionFault, account_at, has_only, hash_at, nested_array, nested_object,
+};
 use crate::span::Span;
-use crate::reading::{TransactionFault, account_at, has_only, hash_at, nested_array, nested_object};
 use crate::transaction::{Grant, Parameter};
 use hk_base::Items;
 use std::alloc::Global;
@@ -25,14 +27,22 @@ const LONGEST_NAME: usize = 32;
 const LONGEST_VALUE: usize = 256;
 
 const PARAMETER_NAME: FieldId = FieldId { kind: 7, code: 24 };
+
 const PARAMETER_VALUE: FieldId = FieldId { kind: 7, code: 25 };
+
 const HOOK_HASH: FieldId = FieldId { kind: 5, code: 31 };
+
 const AUTHORIZE: FieldId = FieldId { kind: 8, code: 5 };
+
 const HOOK_PARAMETERS: FieldId = FieldId { kind: 15, code: 19 };
+
 const HOOK_GRANTS: FieldId = FieldId { kind: 15, code: 20 };
 
 /// The parameters that an object has, if it has a list of them.
-pub fn given_parameters(alloc: Global, object: &Object) -> Result<Option<Items<Parameter>>, TransactionFault>
+pub fn given_parameters(
+    alloc: Global,
+    object: &Object,
+) -> Result<Option<Items<Parameter>>, TransactionFault>
     ensures ok { IfOk result (λ given. Given AreParameters (lookup hook_parameters (items object.now)) given) }
     ensures malformed { result ≡ Err TransactionFault.Malformed → (given : Option (List Parameter)) → Given AreParameters (lookup hook_parameters (items object.now)) given → ⊥ }
 {
@@ -46,7 +56,10 @@ pub fn given_parameters(alloc: Global, object: &Object) -> Result<Option<Items<P
 }
 
 /// The grants that an object has, if it has a list of them.
-pub fn given_grants(alloc: Global, object: &Object) -> Result<Option<Items<Grant>>, TransactionFault>
+pub fn given_grants(
+    alloc: Global,
+    object: &Object,
+) -> Result<Option<Items<Grant>>, TransactionFault>
     ensures ok { IfOk result (λ given. Given AreGrants (lookup hook_grants (items object.now)) given) }
     ensures malformed { result ≡ Err TransactionFault.Malformed → (given : Option (List Grant)) → Given AreGrants (lookup hook_grants (items object.now)) given → ⊥ }
 {
@@ -71,7 +84,11 @@ fn read_parameters(alloc: Global, bytes: &[u8]) -> Result<Items<Parameter>, Tran
 }
 
 /// The parameters of an array's elements.
-fn parameters_of(alloc: Global, bytes: &[u8], elements: &[(FieldId, Span)]) -> Result<Items<Parameter>, TransactionFault>
+fn parameters_of(
+    alloc: Global,
+    bytes: &[u8],
+    elements: &[(FieldId, Span)],
+) -> Result<Items<Parameter>, TransactionFault>
     requires array { IsArray (items_of bytes.now elements.now) bytes.now }
     requires ranges { All (InRange bytes.now) elements.now }
     ensures ok { IfOk result (λ parameters. AreParameters bytes.now parameters) }
@@ -111,7 +128,11 @@ fn read_grants(alloc: Global, bytes: &[u8]) -> Result<Items<Grant>, TransactionF
 }
 
 /// The grants of an array's elements.
-fn grants_of(alloc: Global, bytes: &[u8], elements: &[(FieldId, Span)]) -> Result<Items<Grant>, TransactionFault>
+fn grants_of(
+    alloc: Global,
+    bytes: &[u8],
+    elements: &[(FieldId, Span)],
+) -> Result<Items<Grant>, TransactionFault>
     requires array { IsArray (items_of bytes.now elements.now) bytes.now }
     requires ranges { All (InRange bytes.now) elements.now }
     ensures ok { IfOk result (λ grants. AreGrants bytes.now grants) }
@@ -137,7 +158,11 @@ fn grants_of(alloc: Global, bytes: &[u8], elements: &[(FieldId, Span)]) -> Resul
 }
 
 /// The parameter of an element.
-fn read_parameter(alloc: Global, field: FieldId, bytes: &[u8]) -> Result<Parameter, TransactionFault>
+fn read_parameter(
+    alloc: Global,
+    field: FieldId,
+    bytes: &[u8],
+) -> Result<Parameter, TransactionFault>
     ensures ok { IfOk result (λ parameter. IsElement hook_parameter ParameterIs (record { field = field; value = bytes.now }) parameter) }
     ensures malformed { result ≡ Err TransactionFault.Malformed → (parameter : Parameter) → IsElement hook_parameter ParameterIs (record { field = field; value = bytes.now }) parameter → ⊥ }
 {

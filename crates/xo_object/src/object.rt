@@ -90,7 +90,12 @@ pub fn read_object(alloc: Global, bytes: &[u8]) -> Result<Object, ObjectFault>
 }
 
 /// The spans of the fields or elements that stand there, up to their end.
-pub fn collect(alloc: Global, bytes: &[u8], place: Place, room: u8) -> Result<Vec<(FieldId, Span)>, ObjectFault>
+pub fn collect(
+    alloc: Global,
+    bytes: &[u8],
+    place: Place,
+    room: u8,
+) -> Result<Vec<(FieldId, Span)>, ObjectFault>
     ensures ok { IfOk result (λ spans. Collects room place bytes.now spans.items) }
     ensures fault { IfErr result (λ fault. (fault ≡ ObjectFault.NoMemory → ⊥) → Reads room place 0 bytes.now (fails fault)) }
 {

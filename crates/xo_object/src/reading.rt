@@ -68,7 +68,9 @@ pub fn number64_at(object: &Object, field: FieldId) -> Option<u64>
 {
     match value_at(object, field, Form::Fixed(8)) {
         None => None,
-        Some(value) => Some(u64::from_be_bytes([value[0], value[1], value[2], value[3], value[4], value[5], value[6], value[7]])),
+        Some(value) => Some(u64::from_be_bytes([
+            value[0], value[1], value[2], value[3], value[4], value[5], value[6], value[7],
+        ])),
     }
 }
 

@@ -4,9 +4,11 @@ ghost use Rattle.xo_object.specs.Value.{Allowed, Head, IsValue};
 ghost use Rattle.xo_object.specs.Fault.{is_array, IsEnd, IsNoEnd, HeaderFault, HeadFails, BodyFails, Reads, ends, fails};
 ghost use Rattle.xo_object.specs.Span.{part, Valued};
 
-use xo_fields::{AmountRead, FieldId, Form, HeaderRead, LengthRead, form_of, read_amount, read_header, read_length};
-
 use crate::fault::ObjectFault;
+use xo_fields::{
+    AmountRead, FieldId, Form, HeaderRead, LengthRead, form_of, read_amount, read_header,
+    read_length,
+};
 
 /// The end mark of a nested object.
 const OBJECT_END: u8 = 0xe1;
@@ -108,7 +110,11 @@ pub fn start_of(bytes: &[u8], at: usize, array: bool, last: u32) -> Result<Start
             }
             match form_of(field.kind) {
                 None => Err(ObjectFault::UnknownField),
-                Some(form) => Ok(Start { field, form, from: at + size }),
+                Some(form) => Ok(Start {
+                    field,
+                    form,
+                    from: at + size,
+                }),
             }
         }
     }
@@ -149,7 +155,11 @@ pub fn skip_value(bytes: &[u8], at: usize, form: Form, room: u8) -> Result<Skipp
             }
             match skip_fields(bytes, at, Place::NestedFields, room - 1) {
                 Err(fault) => Err(fault),
-                Ok(next) => Ok(Skipped { from: at, to: next - 1, next }),
+                Ok(next) => Ok(Skipped {
+                    from: at,
+                    to: next - 1,
+                    next,
+                }),
             }
         }
         Form::Array => {
@@ -158,7 +168,11 @@ pub fn skip_value(bytes: &[u8], at: usize, form: Form, room: u8) -> Result<Skipp
             }
             match skip_fields(bytes, at, Place::NestedElements, room - 1) {
                 Err(fault) => Err(fault),
-                Ok(next) => Ok(Skipped { from: at, to: next - 1, next }),
+                Ok(next) => Ok(Skipped {
+                    from: at,
+                    to: next - 1,
+                    next,
+                }),
             }
         }
     }
@@ -173,7 +187,11 @@ fn skip_fixed(bytes: &[u8], at: usize, size: usize) -> Result<Skipped, ObjectFau
         return Err(ObjectFault::Cut);
     }
     let next = at + size;
-    Ok(Skipped { from: at, to: next, next })
+    Ok(Skipped {
+        from: at,
+        to: next,
+        next,
+    })
 }
 
 fn skip_amount(bytes: &[u8], at: usize) -> Result<Skipped, ObjectFault>
@@ -186,7 +204,11 @@ fn skip_amount(bytes: &[u8], at: usize) -> Result<Skipped, ObjectFault>
         AmountRead::Bad => Err(ObjectFault::BadAmount),
         AmountRead::Amount { amount: _, size } => {
             let next = at + size;
-            Ok(Skipped { from: at, to: next, next })
+            Ok(Skipped {
+                from: at,
+                to: next,
+                next,
+            })
         }
     }
 }
@@ -205,7 +227,11 @@ fn skip_blob(bytes: &[u8], at: usize) -> Result<Skipped, ObjectFault>
                 return Err(ObjectFault::Cut);
             }
             let next = from + length as usize;
-            Ok(Skipped { from, to: next, next })
+            Ok(Skipped {
+                from,
+                to: next,
+                next,
+            })
         }
     }
 }
@@ -226,7 +252,11 @@ fn skip_account(bytes: &[u8], at: usize) -> Result<Skipped, ObjectFault>
             if bytes.len() - from < 20 {
                 return Err(ObjectFault::Cut);
             }
-            Ok(Skipped { from, to: from + 20, next: from + 20 })
+            Ok(Skipped {
+                from,
+                to: from + 20,
+                next: from + 20,
+            })
         }
     }
 }

@@ -12,30 +12,51 @@ use crate::hooks::{parameters_or_none, read_hooks};
 use crate::laws::one_reading;
 use crate::lists::{copied, given_parameters};
 use crate::object::Object;
-use crate::reading::{TransactionFault, account_at, amount_at, has_only, nested_object, number16_at, number32_at, number64_at};
+use crate::reading::{
+    TransactionFault, account_at, amount_at, has_only, nested_object, number16_at, number32_at,
+    number64_at,
+};
 use crate::transaction::{HookItem, Transaction};
 use hk_base::{AccountId, Items, tx_id};
 use std::alloc::Global;
 use xo_fields::{Amount, FieldId, one_amount};
 
 const TRANSACTION_TYPE: FieldId = FieldId { kind: 1, code: 2 };
+
 const SEQUENCE: FieldId = FieldId { kind: 2, code: 4 };
+
 const FIRST_LEDGER_SEQUENCE: FieldId = FieldId { kind: 2, code: 26 };
+
 const LAST_LEDGER_SEQUENCE: FieldId = FieldId { kind: 2, code: 27 };
+
 const EMIT_GENERATION: FieldId = FieldId { kind: 2, code: 46 };
+
 const EMIT_BURDEN: FieldId = FieldId { kind: 3, code: 13 };
+
 const EMIT_PARENT: FieldId = FieldId { kind: 5, code: 11 };
+
 const EMIT_NONCE: FieldId = FieldId { kind: 5, code: 12 };
+
 const EMIT_HOOK_HASH: FieldId = FieldId { kind: 5, code: 13 };
+
 const AMOUNT: FieldId = FieldId { kind: 6, code: 1 };
+
 const FEE: FieldId = FieldId { kind: 6, code: 8 };
+
 const SEND_MAX: FieldId = FieldId { kind: 6, code: 9 };
+
 const DELIVER_MIN: FieldId = FieldId { kind: 6, code: 10 };
+
 const SIGNING_PUB_KEY: FieldId = FieldId { kind: 7, code: 3 };
+
 const ACCOUNT: FieldId = FieldId { kind: 8, code: 1 };
+
 const DESTINATION: FieldId = FieldId { kind: 8, code: 3 };
+
 const EMIT_CALLBACK: FieldId = FieldId { kind: 8, code: 10 };
+
 const EMIT_DETAILS: FieldId = FieldId { kind: 14, code: 13 };
+
 const HOOKS: FieldId = FieldId { kind: 15, code: 11 };
 
 /// Payments.
@@ -47,7 +68,11 @@ const SET_HOOK: u16 = 22;
 ///
 /// It is malformed where one of its rules is broken: a known type; the fields that each transaction has, with a native fee; a payment's
 /// destination and positive amount; a change of hooks' items; right parameters; and a sequence number and details as emitted or not.
-pub fn read_transaction(alloc: Global, object: &Object, emitted: bool) -> Result<Transaction, TransactionFault>
+pub fn read_transaction(
+    alloc: Global,
+    object: &Object,
+    emitted: bool,
+) -> Result<Transaction, TransactionFault>
     ensures ok { IfOk result (λ transaction. IsTransaction (items object.now) object.now.bytes emitted transaction) }
     ensures malformed { result ≡ Err TransactionFault.Malformed → (transaction : Transaction) → IsTransaction (items object.now) object.now.bytes emitted transaction → ⊥ }
 {
@@ -107,13 +132,7 @@ fn kind_of(object: &Object) -> Option<u16>
 {
     match number16_at(object, TRANSACTION_TYPE) {
         None => None,
-        Some(kind) => {
-            if is_known(kind) {
-                Some(kind)
-            } else {
-                None
-            }
-        }
+        Some(kind) => { if is_known(kind) { Some(kind) } else { None } }
     }
 }
 
@@ -132,7 +151,13 @@ fn fee_of(object: &Object) -> Option<u64>
     match amount_at(object, FEE) {
         None => None,
         Some(Amount::Native(drops)) => Some(drops),
-        Some(Amount::Issued { value: _, currency: _, issuer: _ }) => None,
+        Some(
+            Amount::Issued {
+                value: _,
+                currency: _,
+                issuer: _,
+            },
+        ) => None,
     }
 }
 
@@ -157,7 +182,11 @@ fn is_positive(amount: &Amount) -> bool
 {
     match amount {
         Amount::Native(drops) => *drops > 0,
-        Amount::Issued { value, currency: _, issuer: _ } => *value >= 1 << 62,
+        Amount::Issued {
+            value,
+            currency: _,
+            issuer: _,
+        } => *value >= 1 << 62,
     }
 }
 
@@ -168,7 +197,12 @@ struct Emission {
     burden: u64,
 }
 
-fn emission_of(alloc: Global, object: &Object, emitted: bool, sequence: u32) -> Result<Emission, TransactionFault>
+fn emission_of(
+    alloc: Global,
+    object: &Object,
+    emitted: bool,
+    sequence: u32,
+) -> Result<Emission, TransactionFault>
     ensures ok { IfOk result (λ emission. EmissionIs emitted (lookup emit_details (items object.now)) sequence emission.generation emission.burden) }
     ensures malformed { result ≡ Err TransactionFault.Malformed → (generation : ℕ) → (burden : ℕ) → EmissionIs emitted (lookup emit_details (items object.now)) sequence generation burden → ⊥ }
 {
@@ -183,7 +217,10 @@ fn emission_of(alloc: Global, object: &Object, emitted: bool, sequence: u32) -> 
             if sequence == u32::MAX {
                 return Err(TransactionFault::Malformed);
             }
-            Ok(Emission { generation: 0, burden: 1 })
+            Ok(Emission {
+                generation: 0,
+                burden: 1,
+            })
         }
         Some(details) => {
             if !emitted {
@@ -210,7 +247,17 @@ fn details_in(object: &Object) -> Result<Emission, TransactionFault>
     ensures ok { IfOk result (λ emission. DetailsIn (items object.now) emission.generation emission.burden) }
     ensures malformed { result ≡ Err TransactionFault.Malformed → (generation : ℕ) → (burden : ℕ) → DetailsIn (items object.now) generation burden → ⊥ }
 {
-    if !has_only(object, &[EMIT_GENERATION, EMIT_BURDEN, EMIT_PARENT, EMIT_NONCE, EMIT_HOOK_HASH, EMIT_CALLBACK]) {
+    if !has_only(
+        object,
+        &[
+            EMIT_GENERATION,
+            EMIT_BURDEN,
+            EMIT_PARENT,
+            EMIT_NONCE,
+            EMIT_HOOK_HASH,
+            EMIT_CALLBACK,
+        ],
+    ) {
         return Err(TransactionFault::Malformed);
     }
     let generation = match number32_at(object, EMIT_GENERATION) {

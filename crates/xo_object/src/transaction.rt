@@ -85,21 +85,61 @@ impl HookItem {
             HookItem::Noop => Ok(HookItem::Noop),
             HookItem::DeleteNamespace(namespace) => Ok(HookItem::DeleteNamespace(*namespace)),
             HookItem::Delete => Ok(HookItem::Delete),
-            HookItem::Create { code, version, on, namespace, parameters, grants, replace } => {
+            HookItem::Create {
+                code,
+                version,
+                on,
+                namespace,
+                parameters,
+                grants,
+                replace,
+            } => {
                 let code = code.copy()?;
                 let parameters = copy_parameters(alloc, parameters.as_slice())?;
                 let grants = grants.copy()?;
-                Ok(HookItem::Create { code, version: *version, on: *on, namespace: *namespace, parameters, grants, replace: *replace })
+                Ok(HookItem::Create {
+                    code,
+                    version: *version,
+                    on: *on,
+                    namespace: *namespace,
+                    parameters,
+                    grants,
+                    replace: *replace,
+                })
             }
-            HookItem::Install { hash, on, namespace, parameters, grants, replace } => {
+            HookItem::Install {
+                hash,
+                on,
+                namespace,
+                parameters,
+                grants,
+                replace,
+            } => {
                 let parameters = copy_parameters(alloc, parameters.as_slice())?;
                 let grants = grants.copy()?;
-                Ok(HookItem::Install { hash: *hash, on: *on, namespace: *namespace, parameters, grants, replace: *replace })
+                Ok(HookItem::Install {
+                    hash: *hash,
+                    on: *on,
+                    namespace: *namespace,
+                    parameters,
+                    grants,
+                    replace: *replace,
+                })
             }
-            HookItem::Update { on, namespace, parameters, grants } => {
+            HookItem::Update {
+                on,
+                namespace,
+                parameters,
+                grants,
+            } => {
                 let parameters = copy_given_parameters(alloc, parameters)?;
                 let grants = copy_given_grants(grants)?;
-                Ok(HookItem::Update { on: *on, namespace: *namespace, parameters, grants })
+                Ok(HookItem::Update {
+                    on: *on,
+                    namespace: *namespace,
+                    parameters,
+                    grants,
+                })
             }
         }
     }
@@ -163,7 +203,10 @@ impl Transaction {
 }
 
 /// An equal list of parameters.
-pub fn copy_parameters(alloc: Global, parameters: &[Parameter]) -> Result<Items<Parameter>, NoMemory>
+pub fn copy_parameters(
+    alloc: Global,
+    parameters: &[Parameter],
+) -> Result<Items<Parameter>, NoMemory>
     ensures same { IfOk result (λ copied. copied ≡ parameters.now) }
 {
     let mut copied = Items::new(alloc);
@@ -186,7 +229,10 @@ fn copy_hooks(alloc: Global, hooks: &[HookItem]) -> Result<Items<HookItem>, NoMe
     Ok(copied)
 }
 
-fn copy_given_parameters(alloc: Global, parameters: &Option<Items<Parameter>>) -> Result<Option<Items<Parameter>>, NoMemory>
+fn copy_given_parameters(
+    alloc: Global,
+    parameters: &Option<Items<Parameter>>,
+) -> Result<Option<Items<Parameter>>, NoMemory>
     ensures same { IfOk result (λ copied. copied ≡ parameters.now) }
 {
     match parameters {

@@ -15,16 +15,22 @@ pub returns-then-passed-bytes : goal.returns-then-passed-bytes
 returns-then-passed-bytes c = record { found = λ elements h. element_end c.args.bytes.now elements c.args.index c.skip_elements-passed.result (c.skip_elements-passed.ensures.passed elements h) c.if-passed-bytes.true }
 
 pub returns-in-Err : goal.returns-in-Err
-returns-in-Err c = record { found = λ elements h. let p : Passes c.args.bytes.now elements c.args.index c.skip_elements-passed.result = c.skip_elements-passed.ensures.passed elements h in
-    absurd (no_element_head_fault c.one_field.ensures.law c.args.bytes.now elements c.skip_elements-passed.result.count c.skip_elements-passed.result.at c.in-Err.field-0 (before_of c.args.bytes.now elements c.args.index c.skip_elements-passed.result p)
-      (more_there c.args.bytes.now elements c.args.index c.skip_elements-passed.result p c.if-passed-bytes.false) c.in-Err.ensures.start) }
+returns-in-Err c = record {
+  found = λ elements h. let p : Passes c.args.bytes.now elements c.args.index c.skip_elements-passed.result = c.skip_elements-passed.ensures.passed elements h in
+      absurd (no_element_head_fault c.one_field.ensures.law c.args.bytes.now elements c.skip_elements-passed.result.count c.skip_elements-passed.result.at c.in-Err.field-0 (before_of c.args.bytes.now elements c.args.index c.skip_elements-passed.result p)
+      (more_there c.args.bytes.now elements c.args.index c.skip_elements-passed.result p c.if-passed-bytes.false) c.in-Err.ensures.start);
+}
 
 pub returns-in-Err-skip_value : goal.returns-in-Err-skip_value
-returns-in-Err-skip_value c = record { found = λ elements h. let p : Passes c.args.bytes.now elements c.args.index c.skip_elements-passed.result = c.skip_elements-passed.ensures.passed elements h in
-    absurd (no_element_body_fault c.one_field.ensures.law c.args.bytes.now elements c.skip_elements-passed.result.count c.skip_elements-passed.result.at c.in-Ok.start.field c.in-Ok.start.form _ c.in-Err-skip_value.field-0 (before_of c.args.bytes.now elements c.args.index c.skip_elements-passed.result p)
-      (more_there c.args.bytes.now elements c.args.index c.skip_elements-passed.result p c.if-passed-bytes.false) c.in-Ok.ensures.start c.in-Err-skip_value.ensures.value) }
+returns-in-Err-skip_value c = record {
+  found = λ elements h. let p : Passes c.args.bytes.now elements c.args.index c.skip_elements-passed.result = c.skip_elements-passed.ensures.passed elements h in
+      absurd (no_element_body_fault c.one_field.ensures.law c.args.bytes.now elements c.skip_elements-passed.result.count c.skip_elements-passed.result.at c.in-Ok.start.field c.in-Ok.start.form _ c.in-Err-skip_value.field-0 (before_of c.args.bytes.now elements c.args.index c.skip_elements-passed.result p)
+      (more_there c.args.bytes.now elements c.args.index c.skip_elements-passed.result p c.if-passed-bytes.false) c.in-Ok.ensures.start c.in-Err-skip_value.ensures.value);
+}
 
 pub returns-in-Ok-skip_value : goal.returns-in-Ok-skip_value
-returns-in-Ok-skip_value c = record { found = λ elements h. let p : Passes c.args.bytes.now elements c.args.index c.skip_elements-passed.result = c.skip_elements-passed.ensures.passed elements h in
-    element_found c.one_field.ensures.law c.args.bytes.now elements c.args.index c.skip_elements-passed.result c.in-Ok.start.field c.in-Ok.start.form _ _ c.in-Ok-skip_value.value.next p c.if-passed-index.false
-      (more_there c.args.bytes.now elements c.args.index c.skip_elements-passed.result p c.if-passed-bytes.false) c.in-Ok.ensures.start c.in-Ok-skip_value.ensures.value (omega (arith, c.in-Ok-skip_value.ensures.within)) }
+returns-in-Ok-skip_value c = record {
+  found = λ elements h. let p : Passes c.args.bytes.now elements c.args.index c.skip_elements-passed.result = c.skip_elements-passed.ensures.passed elements h in
+      element_found c.one_field.ensures.law c.args.bytes.now elements c.args.index c.skip_elements-passed.result c.in-Ok.start.field c.in-Ok.start.form _ _ c.in-Ok-skip_value.value.next p c.if-passed-index.false
+      (more_there c.args.bytes.now elements c.args.index c.skip_elements-passed.result p c.if-passed-bytes.false) c.in-Ok.ensures.start c.in-Ok-skip_value.ensures.value (omega (arith, c.in-Ok-skip_value.ensures.within));
+}

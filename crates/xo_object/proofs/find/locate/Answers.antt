@@ -10,27 +10,33 @@ pub returns-in-Err : goal.returns-in-Err
 returns-in-Err c = record { located = λ items h. absurd (no_head_fault c.one_field.ensures.law c.args.bytes.now c.args.field items c.fields.last c.fields.at c.in-Err.field-0 (c.fields.invariant items h) c.fields-test.true c.in-Err.ensures.start) }
 
 pub returns-then-wanted-number : goal.returns-then-wanted-number
-returns-then-wanted-number c = record { located = λ items h.
-    absent_before c.one_header.ensures.law c.args.bytes.now c.args.field items c.fields.last c.fields.at c.in-Ok.start.field c.in-Ok.start.form _ (c.fields.invariant items h) c.fields-test.true c.in-Ok.ensures.start
-      (omega (arith, c.number-wanted.ensures.number, c.number-number.ensures.number, c.if-wanted-number.true)) }
+returns-then-wanted-number c = record {
+  located = λ items h.
+      absent_before c.one_header.ensures.law c.args.bytes.now c.args.field items c.fields.last c.fields.at c.in-Ok.start.field c.in-Ok.start.form _ (c.fields.invariant items h) c.fields-test.true c.in-Ok.ensures.start
+      (omega (arith, c.number-wanted.ensures.number, c.number-number.ensures.number, c.if-wanted-number.true));
+}
 
 pub returns-in-Err-skip_value : goal.returns-in-Err-skip_value
-returns-in-Err-skip_value c = record { located = λ items h.
-    absurd (no_body_fault c.one_field.ensures.law c.args.bytes.now c.args.field items c.fields.last c.fields.at c.in-Ok.start.field c.in-Ok.start.form _ c.in-Err-skip_value.field-0 (c.fields.invariant items h) c.fields-test.true
-      c.in-Ok.ensures.start c.in-Err-skip_value.ensures.value) }
+returns-in-Err-skip_value c = record {
+  located = λ items h.
+      absurd (no_body_fault c.one_field.ensures.law c.args.bytes.now c.args.field items c.fields.last c.fields.at c.in-Ok.start.field c.in-Ok.start.form _ c.in-Err-skip_value.field-0 (c.fields.invariant items h) c.fields-test.true
+      c.in-Ok.ensures.start c.in-Err-skip_value.ensures.value);
+}
 
 pub returns-then-wanted-number-2 : goal.returns-then-wanted-number-2
-returns-then-wanted-number-2 c = let w : _ = c.in-Ok-skip_value.ensures.within in record { located = λ items h.
-    found_here c.one_field.ensures.law c.args.bytes.now c.args.field items c.fields.last c.fields.at c.in-Ok.start.field c.in-Ok.start.form _ (record { from = c.in-Ok-skip_value.value.from; to = c.in-Ok-skip_value.value.to }) c.in-Ok-skip_value.value.next
+returns-then-wanted-number-2 c = let w : _ = c.in-Ok-skip_value.ensures.within in record {
+  located = λ items h.
+      found_here c.one_field.ensures.law c.args.bytes.now c.args.field items c.fields.last c.fields.at c.in-Ok.start.field c.in-Ok.start.form _ (record { from = c.in-Ok-skip_value.value.from; to = c.in-Ok-skip_value.value.to }) c.in-Ok-skip_value.value.next
       (c.fields.invariant items h) c.fields-test.true c.in-Ok.ensures.start c.in-Ok-skip_value.ensures.value w.1 (omega (arith, w)) w.3 c.number-wanted.ensures.bytes.1
-      (omega (arith, c.number-wanted.ensures.number, c.number-number.ensures.number, c.if-wanted-number-2.true)) }
+      (omega (arith, c.number-wanted.ensures.number, c.number-number.ensures.number, c.if-wanted-number-2.true));
+}
 
 pub fields-preserved : goal.fields-preserved
 fields-preserved c items h = let w : _ = c.in-Ok-skip_value.ensures.within in
     subst (λ n. Behind c.args.bytes.now c.args.field items n c.in-Ok-skip_value.value.next) (sym c.number-number.ensures.number)
-      (behind_more c.one_field.ensures.law c.args.bytes.now c.args.field items c.fields.last c.fields.at c.in-Ok.start.field c.in-Ok.start.form _ _ c.in-Ok-skip_value.value.next
-        (c.fields.invariant items h) c.fields-test.true c.in-Ok.ensures.start c.in-Ok-skip_value.ensures.value w.3
-        (omega (arith, c.number-wanted.ensures.number, c.number-number.ensures.number, c.if-wanted-number.false, c.if-wanted-number-2.false)))
+    (behind_more c.one_field.ensures.law c.args.bytes.now c.args.field items c.fields.last c.fields.at c.in-Ok.start.field c.in-Ok.start.form _ _ c.in-Ok-skip_value.value.next
+    (c.fields.invariant items h) c.fields-test.true c.in-Ok.ensures.start c.in-Ok-skip_value.ensures.value w.3
+    (omega (arith, c.number-wanted.ensures.number, c.number-number.ensures.number, c.if-wanted-number.false, c.if-wanted-number-2.false)))
 
 pub returns : goal.returns
 returns c = record { located = λ items h. absent_at_end c.args.bytes.now c.args.field items c.fields.last c.fields.at (c.fields.invariant items h) c.fields-test.false }

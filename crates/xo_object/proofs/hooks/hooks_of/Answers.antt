@@ -23,5 +23,5 @@ returns-in-Err-clause-malformed c e items r =
 pub returns-clause-ok : goal.returns-clause-ok
 returns-clause-ok c =
     let are : AreElements hook HookIs 10 c.args.bytes.now c.loop-element.hooks =
-      whole_read hook HookIs 10 c.args.bytes.now c.args.elements.now c.loop-element.element-index c.loop-element.hooks c.requires.array c.if-elements-gt-MOST.false c.loop-element-test.false c.loop-element.invariant in
+    whole_read hook HookIs 10 c.args.bytes.now c.args.elements.now c.loop-element.element-index c.loop-element.hooks c.requires.array c.if-elements-gt-MOST.false c.loop-element-test.false c.loop-element.invariant in
     (are, omega (arith, as_many c.one_reading.ensures.law hook HookIs 10 c.args.bytes.now c.args.elements.now c.requires.array c.loop-element.hooks are, c.if-elements-lt1.false))
