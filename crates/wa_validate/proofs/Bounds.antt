@@ -80,11 +80,11 @@ effect_few n context labels (op.Br label) stack h = at_most_then (n + 1) (slice_
 effect_few n context labels (op.BrIf label) stack h =
     at_most_on n (n + 1) (pop I32 stack) (λ below. and_then (slice_get labels label) (λ result. and_then (pop_result result below) (λ left. Some (push_result result left)))) (pop_few n I32 stack h)
     (λ below k. at_most_then (n + 1) (slice_get labels label) (λ result. and_then (pop_result result below) (λ left. Some (push_result result left)))
-      (λ result. at_most_on n (n + 1) (pop_result result below) (λ left. Some (push_result result left)) (pop_result_few n result below k) (λ left m. push_result_few n result left m)))
+    (λ result. at_most_on n (n + 1) (pop_result result below) (λ left. Some (push_result result left)) (pop_result_few n result below k) (λ left m. push_result_few n result left m)))
 effect_few n context labels (op.BrTable listed last) stack h =
     at_most_then (n + 1) (pop I32 stack) (λ below. and_then (slice_get labels last) (λ result. if all_carry labels result listed then left_with result below else None))
     (λ below. at_most_then (n + 1) (slice_get labels last) (λ result. if all_carry labels result listed then left_with result below else None)
-      (λ result. at_most_if (n + 1) (all_carry labels result listed) (left_with result below) (left_few (n + 1) result below)))
+    (λ result. at_most_if (n + 1) (all_carry labels result listed) (left_with result below) (left_few (n + 1) result below)))
 effect_few n context labels op.Return stack h = left_few (n + 1) context.result stack
 effect_few n context labels (op.Call function) stack h =
     at_most_then (n + 1) (slice_get context.calls function) (λ callee. changed (takes callee) (gives callee) stack) (λ callee. changed_few n (takes callee) (gives callee) stack h)
@@ -151,6 +151,7 @@ ended_few n r go few h = at (pop_result r.inner.result r.inner.operands) (pop_re
     pick : (left : Stack) (b : Bool) → length left.slots ≤ length r.inner.operands.slots → FewOn (n + 1) (and_then (if b then Some (with_operands left r) else None) go)
     pick left true k = h left (with_few n n r left few (omega arith) (let less : r.inner.below + length r.inner.operands.slots ≤ n = few.inner in omega arith))
     pick left false k = tt
+
     at : (o : Option Stack) → AtMost (length r.inner.operands.slots) o → FewOn (n + 1) (and_then (and_then o (λ left. if no_slots left.slots then Some (with_operands left r) else None)) go)
     at None k = tt
     at (Some left) k = pick left (no_slots left.slots) k
@@ -178,22 +179,22 @@ step_by_few n (opens_loop result) context instruction r few =
 step_by_few n (opens_if result) context instruction r few =
     few_then (n + 1) (pop I32 r.inner.operands) (λ left. Some (entered true result result (with_operands left r)))
     (λ left e.
-      let taken : length left.slots ≤ length r.inner.operands.slots = few_of (length r.inner.operands.slots) (pop I32 r.inner.operands) left e (pop_few (length r.inner.operands.slots) I32 r.inner.operands (omega arith)) in
-      let less : r.inner.below + length r.inner.operands.slots ≤ n = few.inner in let fewer : length r.labels ≤ n + 1 = few.labels in
-      record { inner = omega arith; around = (omega arith, all_more n (n + 1) r.around (omega arith) few.around); labels = omega arith })
+    let taken : length left.slots ≤ length r.inner.operands.slots = few_of (length r.inner.operands.slots) (pop I32 r.inner.operands) left e (pop_few (length r.inner.operands.slots) I32 r.inner.operands (omega arith)) in
+    let less : r.inner.below + length r.inner.operands.slots ≤ n = few.inner in let fewer : length r.labels ≤ n + 1 = few.labels in
+    record { inner = omega arith; around = (omega arith, all_more n (n + 1) r.around (omega arith) few.around); labels = omega arith })
 step_by_few n turns context instruction r few =
     ended_few n r turned few (λ left f. few_if (n + 1) r.inner.first_arm (Some (in_second_arm (with_operands left r)))
-      (let less : r.inner.below + length left.slots ≤ n = f.inner in let fewer : length r.labels ≤ n + 1 = f.labels in
-       record { inner = omega arith; around = all_more n (n + 1) r.around (omega arith) f.around; labels = omega arith }))
+    (let less : r.inner.below + length left.slots ≤ n = f.inner in let fewer : length r.labels ≤ n + 1 = f.labels in
+    record { inner = omega arith; around = all_more n (n + 1) r.around (omega arith) f.around; labels = omega arith }))
 step_by_few n closes context instruction r few =
     ended_few n r closed few (λ left f. few_unless (n + 1) (lacks_else r.inner.first_arm r.inner.result) (Some (handed (with_operands left r) r.around)) (handed_few n (with_operands left r) r.around f f.around))
 step_by_few n stands context instruction r few =
     few_then (n + 1) (effect context r.labels instruction r.inner.operands) (λ stack. Some (with_operands stack r))
     (λ stack e.
-      let grown : length stack.slots ≤ length r.inner.operands.slots + 1 =
-        few_of (length r.inner.operands.slots + 1) (effect context r.labels instruction r.inner.operands) stack e (effect_few (length r.inner.operands.slots) context r.labels instruction r.inner.operands (omega arith)) in
-      let less : r.inner.below + length r.inner.operands.slots ≤ n = few.inner in
-      with_few n (n + 1) r stack few (omega arith) (omega arith))
+    let grown : length stack.slots ≤ length r.inner.operands.slots + 1 =
+    few_of (length r.inner.operands.slots + 1) (effect context r.labels instruction r.inner.operands) stack e (effect_few (length r.inner.operands.slots) context r.labels instruction r.inner.operands (omega arith)) in
+    let less : r.inner.below + length r.inner.operands.slots ≤ n = few.inner in
+    with_few n (n + 1) r stack few (omega arith) (omega arith))
 
 pub step_few : (n : ℕ) (context : Context) (instruction : Op) (r next : OpenRegions) → AreFewAt n r → step context instruction r ≡ Some next → AreFewAt (n + 1) next
 step_few n context instruction r next few e = subst (FewOn (n + 1)) e (step_by_few n (nesting instruction) context instruction r few)

@@ -12,7 +12,7 @@ use Rattle.wa_validate.specs.declared.depth.Depth.{Depth}
 use Rattle.wa_validate.specs.declared.region.Region.{Region}
 use Rattle.wa_validate.specs.declared.open_regions.OpenRegions.{OpenRegions}
 use Rattle.wa_validate.specs.Depths.{surface, deeper, depth_at, depth_on, peak, body_depth}
-use Rattle.wa_validate.specs.Steps.{with_operands, ended, turned, closed, lacks_else, step, step_by}
+use Rattle.wa_validate.specs.Steps.{begun, with_operands, ended, turned, closed, lacks_else, step, step_by}
 use Rattle.wa_validate.specs.Untyped.{body_typing}
 use Rattle.wa_validate.specs.Verdicts.{verdict_of}
 
@@ -81,7 +81,6 @@ plain_case context None op ops code labels region around place next most here af
 plain_case context (Some stack) op ops code labels region around place next most here after deep h =
     h stack ∙ ap (λ d. behind context op ops labels region around (after stack) next d) (deeper_assoc most here (deep stack))
 
-
 pub behind_at : (context : Context) (op : Op) (ops : List Op) (labels : List (Option ValueType)) (region : Region) (around : List Region) (t : Typing) (place next : ℕ) (most more : Depth) → place ≡ next → most ≡ more →
     behind context op ops labels region around t place most ≡ behind context op ops labels region around t next more
 behind_at context op ops labels region around t place next most more e d =
@@ -134,9 +133,9 @@ pub plain_region : (context : Context) (label result : Option ValueType) (body r
     ((d : Depth) → Walks context rest op ops (place + 2 + size body) labels region around (push_result result stack) d) →
     verdict context (flat body (End ∷ flat rest (op ∷ ops))) (place + 1) (within (label ∷ labels) (region_in false result region.below stack) (record region { operands = stack } ∷ around) fresh) (deeper most here)
     ≡ behind context op ops labels region around
-      (after_region result (place + 1 + size body) (types context (label ∷ labels) body (place + 1) fresh) (types context labels rest (place + 2 + size body) (push_result result stack)))
-      (place + (2 + size body + size rest))
-      (deeper most (deeper here (deeper (peak context (label ∷ labels) body (region.below + length stack.slots) fresh) (peak context labels rest region.below (push_result result stack)))))
+    (after_region result (place + 1 + size body) (types context (label ∷ labels) body (place + 1) fresh) (types context labels rest (place + 2 + size body) (push_result result stack)))
+    (place + (2 + size body + size rest))
+    (deeper most (deeper here (deeper (peak context (label ∷ labels) body (region.below + length stack.slots) fresh) (peak context labels rest region.below (push_result result stack)))))
 plain_region context label result body rest op ops place labels region around stack most here inside after =
     let deep : Depth = peak context (label ∷ labels) body (region.below + length stack.slots) fresh in
     let last : Depth = peak context labels rest region.below (push_result result stack) in
@@ -146,7 +145,7 @@ plain_region context label result body rest op ops place labels region around st
     (types context labels rest (place + 2 + size body) (push_result result stack))
     (λ out. counted context op ops (place + (2 + size body + size rest)) (within labels region around out) (deeper most (deeper here (deeper deep last))))
     (λ out left. rest_case context rest op ops (place + 1 + size body + 1) (place + 2 + size body) (place + (2 + size body + size rest)) labels region around (push_result result stack)
-      (deeper (deeper most here) deep) (deeper most (deeper here (deeper deep last))) (omega arith) (omega arith) (three most here deep last) (after (deeper (deeper most here) deep)))
+    (deeper (deeper most here) deep) (deeper most (deeper here (deeper deep last))) (omega arith) (omega arith) (three most here deep last) (after (deeper (deeper most here) deep)))
 
 -- an `if` without an `else`, behind its operand
 pub one_arm : (context : Context) (result : Option ValueType) (body rest : Sequence) (op : Op) (ops : List Op) (place : ℕ) (labels : List (Option ValueType)) (region : Region) (around : List Region) (stack : Stack) (most here : Depth) →
@@ -154,9 +153,9 @@ pub one_arm : (context : Context) (result : Option ValueType) (body rest : Seque
     ((d : Depth) → Walks context rest op ops (place + 2 + size body) labels region around stack d) →
     verdict context (flat body (End ∷ flat rest (op ∷ ops))) (place + 1) (within (result ∷ labels) (region_in true result region.below stack) (record region { operands = stack } ∷ around) fresh) (deeper most here)
     ≡ behind context op ops labels region around
-      (after_region result (place + 1 + size body) (types context (result ∷ labels) body (place + 1) fresh) (no_result result (place + 1 + size body) (types context labels rest (place + 2 + size body) stack)))
-      (place + (2 + size body + size rest))
-      (deeper most (deeper here (deeper (peak context (result ∷ labels) body (region.below + length stack.slots) fresh) (peak context labels rest region.below stack))))
+    (after_region result (place + 1 + size body) (types context (result ∷ labels) body (place + 1) fresh) (no_result result (place + 1 + size body) (types context labels rest (place + 2 + size body) stack)))
+    (place + (2 + size body + size rest))
+    (deeper most (deeper here (deeper (peak context (result ∷ labels) body (region.below + length stack.slots) fresh) (peak context labels rest region.below stack))))
 one_arm context result body rest op ops place labels region around stack most here inside after =
     let deep : Depth = peak context (result ∷ labels) body (region.below + length stack.slots) fresh in
     let last : Depth = peak context labels rest region.below stack in
@@ -166,9 +165,9 @@ one_arm context result body rest op ops place labels region around stack most he
     ∙ region_case (types context (result ∷ labels) body (place + 1) fresh) (within (result ∷ labels) (region_in true result region.below stack) (record region { operands = stack } ∷ around)) result closed (place + 1 + size body)
     next (no_result result (place + 1 + size body) (types context labels rest (place + 2 + size body) stack)) k
     (λ out left. if_end result (within labels region around (push_result result stack)) (place + 1 + size body) next (types context labels rest (place + 2 + size body) stack) k
-      (λ none. ap (λ s. next (within labels region around s)) (pushed_none result stack none)
-        ∙ rest_case context rest op ops (place + 1 + size body + 1) (place + 2 + size body) (place + (2 + size body + size rest)) labels region around stack
-          (deeper (deeper most here) deep) (deeper most (deeper here (deeper deep last))) (omega arith) (omega arith) (three most here deep last) (after (deeper (deeper most here) deep))))
+    (λ none. ap (λ s. next (within labels region around s)) (pushed_none result stack none)
+    ∙ rest_case context rest op ops (place + 1 + size body + 1) (place + 2 + size body) (place + (2 + size body + size rest)) labels region around stack
+    (deeper (deeper most here) deep) (deeper most (deeper here (deeper deep last))) (omega arith) (omega arith) (three most here deep last) (after (deeper (deeper most here) deep))))
 
 -- an `if` with an `else`, behind its operand
 pub two_arms : (context : Context) (result : Option ValueType) (first second rest : Sequence) (op : Op) (ops : List Op) (place : ℕ) (labels : List (Option ValueType)) (region : Region) (around : List Region) (stack : Stack) (most here : Depth) →
@@ -177,12 +176,12 @@ pub two_arms : (context : Context) (result : Option ValueType) (first second res
     ((d : Depth) → Walks context rest op ops (place + 3 + size first + size second) labels region around (push_result result stack) d) →
     verdict context (flat first (Else ∷ flat second (End ∷ flat rest (op ∷ ops)))) (place + 1) (within (result ∷ labels) (region_in true result region.below stack) (record region { operands = stack } ∷ around) fresh) (deeper most here)
     ≡ behind context op ops labels region around
-      (after_region result (place + 1 + size first) (types context (result ∷ labels) first (place + 1) fresh)
-        (after_region result (place + 2 + size first + size second) (types context (result ∷ labels) second (place + 2 + size first) fresh)
-          (types context labels rest (place + 3 + size first + size second) (push_result result stack))))
-      (place + (3 + size first + size second + size rest))
-      (deeper most (deeper here (deeper (peak context (result ∷ labels) first (region.below + length stack.slots) fresh)
-        (deeper (peak context (result ∷ labels) second (region.below + length stack.slots) fresh) (peak context labels rest region.below (push_result result stack))))))
+    (after_region result (place + 1 + size first) (types context (result ∷ labels) first (place + 1) fresh)
+    (after_region result (place + 2 + size first + size second) (types context (result ∷ labels) second (place + 2 + size first) fresh)
+    (types context labels rest (place + 3 + size first + size second) (push_result result stack))))
+    (place + (3 + size first + size second + size rest))
+    (deeper most (deeper here (deeper (peak context (result ∷ labels) first (region.below + length stack.slots) fresh)
+    (deeper (peak context (result ∷ labels) second (region.below + length stack.slots) fresh) (peak context labels rest region.below (push_result result stack))))))
 two_arms context result first second rest op ops place labels region around stack most here inside other after =
     let one : Depth = peak context (result ∷ labels) first (region.below + length stack.slots) fresh in
     let two : Depth = peak context (result ∷ labels) second (region.below + length stack.slots) fresh in
@@ -195,12 +194,12 @@ two_arms context result first second rest op ops place labels region around stac
     (λ r. verdict context (flat second (End ∷ flat rest (op ∷ ops))) (place + 1 + size first + 1) r (deeper (deeper most here) one))
     (after_region result (place + 2 + size first + size second) (types context (result ∷ labels) second (place + 2 + size first) fresh) ending) k
     (λ out left.
-      rest_case context second End (flat rest (op ∷ ops)) (place + 1 + size first + 1) (place + 2 + size first) (place + 2 + size first + size second) (result ∷ labels) (region_in false result region.below stack) outside fresh
-      (deeper (deeper most here) one) (deeper (deeper (deeper most here) one) two) (omega arith) refl refl (other (deeper (deeper most here) one))
-      ∙ region_case (types context (result ∷ labels) second (place + 2 + size first) fresh) (within (result ∷ labels) (region_in false result region.below stack) outside) result closed (place + 2 + size first + size second)
-        (λ r. verdict context (flat rest (op ∷ ops)) (place + 2 + size first + size second + 1) r (deeper (deeper (deeper most here) one) two)) ending k
-        (λ out left. rest_case context rest op ops (place + 2 + size first + size second + 1) (place + 3 + size first + size second) (place + (3 + size first + size second + size rest)) labels region around (push_result result stack)
-          (deeper (deeper (deeper most here) one) two) (deeper most (deeper here (deeper one (deeper two last)))) (omega arith) (omega arith) (four most here one two last) (after (deeper (deeper (deeper most here) one) two))))
+    rest_case context second End (flat rest (op ∷ ops)) (place + 1 + size first + 1) (place + 2 + size first) (place + 2 + size first + size second) (result ∷ labels) (region_in false result region.below stack) outside fresh
+    (deeper (deeper most here) one) (deeper (deeper (deeper most here) one) two) (omega arith) refl refl (other (deeper (deeper most here) one))
+    ∙ region_case (types context (result ∷ labels) second (place + 2 + size first) fresh) (within (result ∷ labels) (region_in false result region.below stack) outside) result closed (place + 2 + size first + size second)
+    (λ r. verdict context (flat rest (op ∷ ops)) (place + 2 + size first + size second + 1) r (deeper (deeper (deeper most here) one) two)) ending k
+    (λ out left. rest_case context rest op ops (place + 2 + size first + size second + 1) (place + 3 + size first + size second) (place + (3 + size first + size second + size rest)) labels region around (push_result result stack)
+    (deeper (deeper (deeper most here) one) two) (deeper most (deeper here (deeper one (deeper two last)))) (omega arith) (omega arith) (four most here one two last) (after (deeper (deeper (deeper most here) one) two))))
 
 -- code that is followed by an instruction comes to what its tree's typing says, and then to what that instruction does
 pub walk : (context : Context) (code : Sequence) (op : Op) (ops : List Op) (place : ℕ) (labels : List (Option ValueType)) (region : Region) (around : List Region) (stack : Stack) (most : Depth) → IsTree code →
@@ -213,7 +212,7 @@ walk context (plain instruction rest) op ops place labels region around stack mo
     ∙ plain_case context (effect context labels instruction stack) op ops (flat rest (op ∷ ops)) labels region around place (place + (1 + size rest)) most here
     (types context labels rest (place + 1)) (peak context labels rest region.below)
     (λ s. rest_case context rest op ops (place + 1) (place + 1) (place + (1 + size rest)) labels region around s (deeper most here) (deeper (deeper most here) (peak context labels rest region.below s)) refl (omega arith) refl
-      (walk context rest op ops (place + 1) labels region around s (deeper most here) t.1))
+    (walk context rest op ops (place + 1) labels region around s (deeper most here) t.1))
 walk context (block result body rest) op ops place labels region around stack most t =
     let here : Depth = depth_at labels region.below stack in
     plain_region context result result body rest op ops place labels region around stack most here
@@ -232,30 +231,26 @@ walk context (if_then result body rest) op ops place labels region around stack 
     (λ out d. counted context op ops (place + (2 + size body + size rest)) (within labels region around out) (deeper most (deeper here d)))
     (λ left. deeper (peak context (result ∷ labels) body (region.below + length left.slots) fresh) (peak context labels rest region.below left))
     (λ left. one_arm context result body rest op ops place labels region around left most here
-      (walk context body End (flat rest (op ∷ ops)) (place + 1) (result ∷ labels) (region_in true result region.below left) (record region { operands = left } ∷ around) fresh (deeper most here) t.0)
-      (λ d. walk context rest op ops (place + 2 + size body) labels region around left d t.1))
+    (walk context body End (flat rest (op ∷ ops)) (place + 1) (result ∷ labels) (region_in true result region.below left) (record region { operands = left } ∷ around) fresh (deeper most here) t.0)
+    (λ d. walk context rest op ops (place + 2 + size body) labels region around left d t.1))
 walk context (if_else result first second rest) op ops place labels region around stack most t =
     let here : Depth = depth_at labels region.below stack in
     popped_case (pop I32 stack) place (λ left. within (result ∷ labels) (region_in true result region.below left) (record region { operands = left } ∷ around) fresh)
     (λ r. verdict context (flat first (Else ∷ flat second (End ∷ flat rest (op ∷ ops)))) (place + 1) r (deeper most here))
     (λ left. after_region result (place + 1 + size first) (types context (result ∷ labels) first (place + 1) fresh)
-      (after_region result (place + 2 + size first + size second) (types context (result ∷ labels) second (place + 2 + size first) fresh)
-        (types context labels rest (place + 3 + size first + size second) (push_result result left))))
+    (after_region result (place + 2 + size first + size second) (types context (result ∷ labels) second (place + 2 + size first) fresh)
+    (types context labels rest (place + 3 + size first + size second) (push_result result left))))
     (λ out d. counted context op ops (place + (3 + size first + size second + size rest)) (within labels region around out) (deeper most (deeper here d)))
     (λ left. deeper (peak context (result ∷ labels) first (region.below + length left.slots) fresh)
-      (deeper (peak context (result ∷ labels) second (region.below + length left.slots) fresh) (peak context labels rest region.below (push_result result left))))
+    (deeper (peak context (result ∷ labels) second (region.below + length left.slots) fresh) (peak context labels rest region.below (push_result result left))))
     (λ left. two_arms context result first second rest op ops place labels region around left most here
-      (walk context first Else (flat second (End ∷ flat rest (op ∷ ops))) (place + 1) (result ∷ labels) (region_in true result region.below left) (record region { operands = left } ∷ around) fresh (deeper most here) t.0)
-      (λ d. walk context second End (flat rest (op ∷ ops)) (place + 2 + size first) (result ∷ labels) (region_in false result region.below left) (record region { operands = left } ∷ around) fresh d t.1)
-      (λ d. walk context rest op ops (place + 3 + size first + size second) labels region around (push_result result left) d t.2))
+    (walk context first Else (flat second (End ∷ flat rest (op ∷ ops))) (place + 1) (result ∷ labels) (region_in true result region.below left) (record region { operands = left } ∷ around) fresh (deeper most here) t.0)
+    (λ d. walk context second End (flat rest (op ∷ ops)) (place + 2 + size first) (result ∷ labels) (region_in false result region.below left) (record region { operands = left } ∷ around) fresh d t.1)
+    (λ d. walk context rest op ops (place + 3 + size first + size second) labels region around (push_result result left) d t.2))
 
 pub settled : (t : Typing) (depth : Depth) → on_typing t (λ stack. Typed depth) ≡ verdict_of t depth
 settled (fails place) depth = refl
 settled (leaves stack) depth = refl
-
--- at the beginning of a body
-abbrev pub begun : Option ValueType → OpenRegions
-begun result = record { labels = result ∷ []; inner = record { first_arm = false; result = result; below = 0; operands = fresh }; around = [] }
 
 -- flat code comes to what the typing of its tree says
 pub body_walk : (context : Context) (ops : List Op) (body : Sequence) → Reads ops body →

@@ -17,11 +17,11 @@ use Rattle.wa_validate.specs.declared.open_regions.OpenRegions.{OpenRegions}
 use Rattle.wa_validate.specs.declared.validation.TypeFault.{TypeFault}
 use Rattle.wa_validate.specs.declared.validation.TypeFault.TheVariants as fault
 use Rattle.wa_validate.specs.Depths.{surface, deeper, body_depth}
-use Rattle.wa_validate.specs.Steps.{step}
+use Rattle.wa_validate.specs.Steps.{begun, step}
 use Rattle.wa_validate.specs.Untyped.{body_typing, body_of, IsTypedAt, IsUntyped, HasDepths}
 use Rattle.wa_validate.specs.Verdicts.{verdict_of}
 use Rattle.wa_validate.proofs.Bounds.{AreFewAt, step_few}
-use Rattle.wa_validate.proofs.Flat.{on_step, depth_of, verdict, begun, body_walk}
+use Rattle.wa_validate.proofs.Flat.{on_step, depth_of, verdict, body_walk}
 
 -- what is left of a body comes to what the whole does
 pub record Going (context : Context) (ops : List Op) (place : ℕ) (r : OpenRegions) (most : Depth) : Type 0 where

@@ -9,16 +9,20 @@ use Rattle.wa_validate.specs.Labels.{rest_of}
 use Rattle.wa_validate.specs.declared.region.Region.{Region}
 use Rattle.wa_validate.specs.declared.open_regions.OpenRegions.{OpenRegions}
 
+-- at the beginning of a body with this result
+abbrev pub begun : Option ValueType → OpenRegions
+begun result = record { labels = result ∷ []; inner = record { first_arm = false; result = result; below = 0; operands = fresh }; around = [] }
+
 abbrev pub with_operands : Stack → OpenRegions → OpenRegions
 with_operands stack r = record r { inner = record r.inner { operands = stack } }
 
 -- begins a region inside
 abbrev pub entered : Bool → Option ValueType → Option ValueType → OpenRegions → OpenRegions
 entered first_arm label result r = record {
-    labels = label ∷ r.labels;
-    inner = record { first_arm = first_arm; result = result; below = r.inner.below + length r.inner.operands.slots; operands = fresh };
-    around = r.inner ∷ r.around
-  }
+  labels = label ∷ r.labels;
+  inner = record { first_arm = first_arm; result = result; below = r.inner.below + length r.inner.operands.slots; operands = fresh };
+  around = r.inner ∷ r.around;
+}
 
 -- without the innermost region's result, where that is all that is left
 abbrev pub ended : OpenRegions → Option OpenRegions
@@ -39,10 +43,10 @@ lacks_else first_arm result = false
 abbrev pub handed : OpenRegions → List Region → OpenRegions
 handed r [] = r
 handed r (outer ∷ around) = record {
-    labels = rest_of r.labels;
-    inner = record outer { operands = push_result r.inner.result outer.operands };
-    around = around
-  }
+  labels = rest_of r.labels;
+  inner = record outer { operands = push_result r.inner.result outer.operands };
+  around = around;
+}
 
 abbrev pub closed : OpenRegions → Option OpenRegions
 closed r = if lacks_else r.inner.first_arm r.inner.result then None else Some (handed r r.around)

@@ -4,15 +4,14 @@ ghost use Rattle.wa_validate.specs.Depths.{body_depth};
 ghost use Rattle.wa_validate.specs.Untyped.{body_typing};
 ghost use Rattle.wa_validate.specs.Verdicts.{verdict_of};
 
-use std::alloc::Global;
-use wa_ops::{NoMemory, Op};
-
 use crate::depth::Depth;
 use crate::open_regions::OpenRegions;
 use crate::scope::Scope;
+use std::alloc::Global;
+use wa_ops::{NoMemory, Op};
 
 /// What a body comes to: how deep it goes, or the first place where it isn't well typed.
-#[derive(Clone, Copy, Debug, PartialEq, Eq)]
+#[derive(Clone, Copy)]
 pub(crate) enum Verdict {
     Typed(Depth),
     Untyped(u32),

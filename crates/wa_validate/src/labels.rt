@@ -1,4 +1,4 @@
-ghost use Rattle.std.specs.Prelude.{◌≡◌, ◌∷◌, [], length, slice_get, OnOk, if◌then◌else◌, IfOk, drop};
+ghost use Rattle.std.specs.Prelude.{◌≡◌, ◌∷◌, [], length, slice_get, OnOk, if◌then◌else◌};
 ghost use Rattle.wa_ops.specs.Typing.{carries, all_carry, is_same_result};
 ghost use Rattle.wa_validate.specs.Labels.{rest_of};
 
@@ -7,7 +7,7 @@ use std::marker::Model;
 use wa_ops::{NoMemory, ValueType};
 
 /// What branches to the open regions carry.
-#[derive(Debug, Drop)]
+#[derive(Drop)]
 pub(crate) struct Labels {
     carried: Vec<Option<ValueType>>,
 }

@@ -1,11 +1,7 @@
-ghost use Rattle.std.specs.Prelude.{◌≡◌, ◌+◌, ◌<◌, ◌≤◌, ◌^◌, ◌∷◌, [], length, OnOk, IfOk, false, Some, None, if◌then◌else◌};
-ghost use Rattle.wa_ops.specs.Typing.{fresh, and_then};
+ghost use Rattle.std.specs.Prelude.{◌≡◌, ◌+◌, ◌<◌, ◌^◌, length, OnOk, IfOk, Some, None, if◌then◌else◌};
+ghost use Rattle.wa_ops.specs.Typing.{and_then};
 ghost use Rattle.wa_validate.specs.Depths.{depth_at};
-ghost use Rattle.wa_validate.specs.Steps.{entered, ended, turned, closed, step, handed};
-
-use std::alloc::Global;
-use std::mem;
-use wa_ops::{NoMemory, Op, ValueType};
+ghost use Rattle.wa_validate.specs.Steps.{begun, entered, ended, turned, closed, step, handed};
 
 use crate::depth::Depth;
 use crate::labels::Labels;
@@ -13,9 +9,12 @@ use crate::operands::Operands;
 use crate::plain::type_plain;
 use crate::region::{Around, Region};
 use crate::scope::Scope;
+use std::alloc::Global;
+use std::mem;
+use wa_ops::{NoMemory, Op, ValueType};
 
 /// The regions that are open at a place of a body.
-#[derive(Debug, Drop)]
+#[derive(Drop)]
 pub(crate) struct OpenRegions {
     pub(crate) labels: Labels,
     pub(crate) inner: Region,
@@ -25,7 +24,7 @@ pub(crate) struct OpenRegions {
 impl OpenRegions {
     /// At the beginning of a body with this result.
     pub(crate) fn new(alloc: Global, kind: Option<ValueType>) -> Result<OpenRegions, NoMemory>
-        ensures fresh { IfOk result (λ r. r ≡ record { labels = kind ∷ []; inner = record { first_arm = false; result = kind; below = 0; operands = fresh }; around = [] }) }
+        ensures begun { IfOk result (λ regions. regions ≡ begun kind) }
     {
         let mut labels = Labels::new(alloc);
         labels.push(kind)?;
@@ -45,7 +44,7 @@ impl OpenRegions {
     pub(crate) fn depth(&self) -> Depth
         requires operands { self.now.inner.below + length self.now.inner.operands.slots < 2 ^ 32 }
         requires labels { length self.now.labels < 2 ^ 32 }
-        ensures depth { result ≡ record { operands = self.now.inner.below + length self.now.inner.operands.slots; labels = length self.now.labels } }
+        ensures depth { result ≡ depth_at self.now.labels self.now.inner.below self.now.inner.operands }
     {
         Depth {
             operands: self.inner.depth(),
@@ -54,7 +53,13 @@ impl OpenRegions {
     }
 
     /// Begins a region inside.
-    fn enter(&mut self, alloc: Global, first_arm: bool, label: Option<ValueType>, kind: Option<ValueType>) -> Result<(), NoMemory>
+    fn enter(
+        &mut self,
+        alloc: Global,
+        first_arm: bool,
+        label: Option<ValueType>,
+        kind: Option<ValueType>,
+    ) -> Result<(), NoMemory>
         requires few { self.old.inner.below + length self.old.inner.operands.slots < 2 ^ 32 }
         ensures entered { OnOk result (self.new ≡ entered first_arm label kind self.old) }
     {
@@ -117,7 +122,12 @@ impl OpenRegions {
     }
 
     /// Goes past an instruction, where it is well typed.
-    pub(crate) fn step(&mut self, alloc: Global, scope: &Scope<'_>, op: &Op) -> Result<bool, NoMemory>
+    pub(crate) fn step(
+        &mut self,
+        alloc: Global,
+        scope: &Scope<'_>,
+        op: &Op,
+    ) -> Result<bool, NoMemory>
         requires few { self.old.inner.below + length self.old.inner.operands.slots < 2 ^ 32 }
         ensures step { IfOk result (λ typed. step scope.now op.now self.old ≡ (if typed then Some self.new else None)) }
     {

@@ -1,5 +1,5 @@
-ghost use Rattle.std.specs.Prelude.{◌≡◌, Some, None, Option, OnOk, IfOk, length, reverse, if◌then◌else◌, MatchOption};
-ghost use Rattle.wa_ops.specs.Typing.{fresh, loosened, push, push_result, pop, pop_all, pop_result, dropped, selected, changed, left_with, one_of, no_slots};
+ghost use Rattle.std.specs.Prelude.{◌≡◌, Some, None, Option, OnOk, IfOk, length, reverse, if◌then◌else◌};
+ghost use Rattle.wa_ops.specs.Typing.{fresh, loosened, push, push_result, pop, pop_all, pop_result, dropped, selected, changed, left_with, one_of};
 ghost use Rattle.wa_validate.specs.Slots.{slot_of, slot_in, top_of};
 
 use std::alloc::Global;
@@ -7,14 +7,14 @@ use std::marker::Model;
 use wa_ops::{NoMemory, ValueType};
 
 /// The type of an operand; behind code that is never reached it may be any.
-#[derive(Clone, Copy, Debug, PartialEq, Eq)]
+#[derive(Clone, Copy)]
 pub(crate) enum Slot {
     Known(ValueType),
     Any,
 }
 
 /// The types of a region's operands. Where they are loose, any operand that is asked for lies below them.
-#[derive(Debug, Drop)]
+#[derive(Drop)]
 pub(crate) struct Operands {
     slots: Vec<Slot>,
     loose: bool,

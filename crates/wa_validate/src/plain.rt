@@ -1,18 +1,25 @@
-ghost use Rattle.std.specs.Prelude.{◌≡◌, ◌&&◌, ◌<◌, ◌^◌, ◌∷◌, [], nat_le, IfOk, Some, None, if◌then◌else◌, slice_get, reverse};
+ghost use Rattle.std.specs.Prelude.{◌≡◌, ◌&&◌, ◌<◌, ◌^◌, ◌∷◌, [], nat_le, IfOk, Some, None, if◌then◌else◌, slice_get};
 ghost use Rattle.wa_ops.specs.Accesses.{load_type, load_width, store_type, store_width, number_takes, number_gives};
 ghost use Rattle.wa_ops.specs.Callees.{takes, gives};
 ghost use Rattle.wa_ops.specs.Opcodes.{is_load, is_store, is_number};
 ghost use Rattle.wa_ops.specs.Typing.{effect, push, selected, and_then, push_result, pop_result, pop, left_with, all_carry, changed, stored, pop_all};
 
-use wa_ops::{NoMemory, Op, ValueType};
-
-use crate::accesses::{is_load, is_number, is_store, load_type, load_width, number_gives, number_takes, store_type, store_width};
+use crate::accesses::{
+    is_load, is_number, is_store, load_type, load_width, number_gives, number_takes, store_type,
+    store_width,
+};
 use crate::labels::Labels;
 use crate::operands::Operands;
 use crate::scope::Scope;
+use wa_ops::{NoMemory, Op, ValueType};
 
 /// Whether an instruction that opens and closes no region is well typed; then the operands are those behind it.
-pub(crate) fn type_plain(scope: &Scope<'_>, labels: &Labels, op: &Op, operands: &mut Operands) -> Result<bool, NoMemory>
+pub(crate) fn type_plain(
+    scope: &Scope<'_>,
+    labels: &Labels,
+    op: &Op,
+    operands: &mut Operands,
+) -> Result<bool, NoMemory>
     ensures effect { IfOk result (λ typed. effect scope.now labels.now op.now operands.old ≡ (if typed then Some operands.new else None)) }
 {
     match op {
@@ -23,7 +30,10 @@ pub(crate) fn type_plain(scope: &Scope<'_>, labels: &Labels, op: &Op, operands: 
         Op::Nop => Ok(true),
         Op::Br(label) => Ok(branch(labels, *label, operands)),
         Op::BrIf(label) => branch_if(labels, *label, operands),
-        Op::BrTable { labels: listed, last } => Ok(branch_by(labels, listed.as_slice(), *last, operands)),
+        Op::BrTable {
+            labels: listed,
+            last,
+        } => Ok(branch_by(labels, listed.as_slice(), *last, operands)),
         Op::Return => Ok(operands.leave_with(scope.result())),
         Op::Call(function) => call(scope, *function, operands),
         Op::Drop => Ok(operands.drop_one()),
@@ -161,7 +171,12 @@ fn is_aligned(align: u32, width: u32) -> bool
     align < 4 && 1u32 << align <= width
 }
 
-fn load(scope: &Scope<'_>, opcode: u8, align: u32, operands: &mut Operands) -> Result<bool, NoMemory>
+fn load(
+    scope: &Scope<'_>,
+    opcode: u8,
+    align: u32,
+    operands: &mut Operands,
+) -> Result<bool, NoMemory>
     ensures typed { IfOk result (λ typed. (if scope.now.has_memory && (is_load opcode && nat_le (2 ^ align) (load_width opcode)) then changed (ValueType.I32 ∷ []) (load_type opcode) operands.old else None) ≡ (if typed then Some operands.new else None)) }
 {
     if !(scope.has_memory() && is_load(opcode) && is_aligned(align, load_width(opcode))) {

@@ -1,14 +1,12 @@
+ghost use Rattle.std.specs.Prelude.{◌≡◌, ◌∷◌, [], ◌+◌, ◌<◌, ◌^◌, length, OnOk, MatchOption};
+
+use crate::operands::Operands;
 use std::alloc::Global;
 use std::marker::Model;
 use wa_ops::{NoMemory, ValueType};
 
-ghost use Rattle.std.specs.Prelude.{◌≡◌, ◌∷◌, [], ◌+◌, ◌<◌, ◌^◌, length, OnOk, MatchOption, Some, None, if◌then◌else◌};
-ghost use Rattle.wa_ops.specs.Typing.{fresh, and_then, no_slots, pop_result};
-
-use crate::operands::Operands;
-
 /// A region that is open.
-#[derive(Debug, Drop)]
+#[derive(Drop)]
 pub(crate) struct Region {
     /// Whether this is the first arm of an `if`.
     pub(crate) first_arm: bool,
@@ -29,7 +27,7 @@ impl Region {
 }
 
 /// The regions around the innermost.
-#[derive(Debug, Drop)]
+#[derive(Drop)]
 pub(crate) struct Around {
     regions: Vec<Region>,
 }

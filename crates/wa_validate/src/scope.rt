@@ -1,4 +1,4 @@
-ghost use Rattle.std.specs.Prelude.{◌≡◌, ◌∷◌, ◌++◌, ℕ, List, [], IfOk, IfSome, IsSome, OnOk, Some, None, slice_get, replicate};
+ghost use Rattle.std.specs.Prelude.{◌≡◌, ◌++◌, ℕ, List, IfOk, IfSome, IsSome, OnOk, Some, None, slice_get, replicate};
 ghost use Rattle.wa_ops.specs.declared.op.ValueType.{ValueType};
 ghost use Rattle.wa_ops.specs.Callees.{Callee};
 ghost use Rattle.wa_ops.specs.Contexts.{callee_of_row, context_of, function_type, locals_of, parameters_of, result_of, expanded};
@@ -21,7 +21,7 @@ impl<'a> Model for Scope<'a> {
     ghost use Rattle.wa_ops.specs.Contexts.{calls_of, global_types, has_items};
     ghost use Rattle.wa_ops.specs.Typing.{Context};
     ghost use Rattle.wa_ops.specs.Rows.{row_named};
-ghost use Rattle.wa_validate.specs.Needs.{AllRowTypes};
+    ghost use Rattle.wa_validate.specs.Needs.{AllRowTypes};
 
     ghost Value = { Context };
 
@@ -32,7 +32,11 @@ ghost use Rattle.wa_validate.specs.Needs.{AllRowTypes};
 
 impl<'a> Scope<'a> {
     /// Of the function with this number among those that the module defines.
-    pub(crate) fn of(alloc: Global, module: &'a Module, function: usize) -> Result<Scope<'a>, NoMemory>
+    pub(crate) fn of(
+        alloc: Global,
+        module: &'a Module,
+        function: usize,
+    ) -> Result<Scope<'a>, NoMemory>
         requires imports { AllRowTypes «module».now.types «module».now.imports }
         ensures context { IfOk result (λ scope. scope ≡ context_of «module».now function) }
     {
@@ -110,7 +114,11 @@ fn first_result(signature: &FuncType) -> Option<ValueType>
 }
 
 /// Adds the function's parameters; its result.
-fn add_signature(module: &Module, function: usize, locals: &mut Items<ValueType>) -> Result<Option<ValueType>, NoMemory>
+fn add_signature(
+    module: &Module,
+    function: usize,
+    locals: &mut Items<ValueType>,
+) -> Result<Option<ValueType>, NoMemory>
     ensures result { IfOk result (λ kind. kind ≡ result_of (function_type «module».now function)) }
     ensures locals { OnOk result (locals.new ≡ locals.old ++ parameters_of (function_type «module».now function)) }
 {
@@ -124,7 +132,11 @@ fn add_signature(module: &Module, function: usize, locals: &mut Items<ValueType>
 }
 
 /// Adds the locals of the function's body.
-fn add_locals(module: &Module, function: usize, locals: &mut Items<ValueType>) -> Result<(), NoMemory>
+fn add_locals(
+    module: &Module,
+    function: usize,
+    locals: &mut Items<ValueType>,
+) -> Result<(), NoMemory>
     ensures locals { OnOk result (locals.new ≡ locals.old ++ locals_of (slice_get «module».now.codes function)) }
 {
     match module.codes.as_slice().get(function) {

@@ -2,12 +2,11 @@ ghost use Rattle.std.specs.Prelude.{◌≡◌, ℕ, IfOk, Err};
 ghost use Rattle.wa_validate.specs.Needs.{AllRowTypes, AllBodies, AreFew};
 ghost use Rattle.wa_validate.specs.Untyped.{IsTypedAt, IsUntyped, HasDepths};
 
-use std::alloc::{AllocError, Global};
-use wa_ops::{Items, Module};
-
 use crate::body::{Verdict, type_body};
 use crate::depth::Typed;
 use crate::scope::Scope;
+use std::alloc::{AllocError, Global};
+use wa_ops::{Items, Module};
 
 /// Why a module isn't typed.
 #[derive(Clone, Copy, Debug, PartialEq, Eq)]

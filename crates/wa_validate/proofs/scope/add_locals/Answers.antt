@@ -8,5 +8,5 @@ pub returns-in-None : goal.returns-in-None
 returns-in-None c = record {
   locals = sym (ap (λ o. c.args.locals.now ++ locals_of o)
       (ap (λ xs. slice_get xs c.args.function) (sym c.as_slice.ensures.items) ∙ get_none c.as_slice.result.now c.args.function c.get.result c.get.ensures.lookup c.in-None.is)
-    ∙ append-nil c.args.locals.now);
+      ∙ append-nil c.args.locals.now);
 }

@@ -10,18 +10,18 @@ returns-in-Untyped-clause-untyped c = λ func op e.
     code_at c.args.module.now c.as_slice-code-items.result.now c.loop-function.function c.code-item.result c.as_slice-code-items.ensures.items c.loop-function-test.true c.code-item.is in
     fault_is c.args.module.now c.loop-function.function c.in-Untyped.op func op e
     (judged_fails c.args.module.now c.loop-function.function c.in-Untyped.op c.code-item.result c.loop-function.depths here (c.requires.bodies c.loop-function.function c.code-item.result here).nested
-      (verdict_at c.in_ok-scope.scope (context_of c.args.module.now c.loop-function.function) c.as_slice.result.now c.code-item.result.ops c.in_ok-depth.field-0 (Untyped c.in-Untyped.op)
-        c.in_ok-scope.ensures.context c.as_slice.ensures.items c.in-Untyped.is c.in_ok-depth.ensures.verdict)
-      c.loop-function.invariant)
+    (verdict_at c.in_ok-scope.scope (context_of c.args.module.now c.loop-function.function) c.as_slice.result.now c.code-item.result.ops c.in_ok-depth.field-0 (Untyped c.in-Untyped.op)
+    c.in_ok-scope.ensures.context c.as_slice.ensures.items c.in-Untyped.is c.in_ok-depth.ensures.verdict)
+    c.loop-function.invariant)
 
 pub loop-function-preserved : goal.loop-function-preserved
 loop-function-preserved c =
     subst (Judged c.args.module.now (c.loop-function.function + 1)) (sym c.in_ok-push-in-Typed.ensures.pushed)
     (judged_more c.args.module.now c.loop-function.function c.code-item.result c.in-Typed.depth c.loop-function.depths
-      (code_at c.args.module.now c.as_slice-code-items.result.now c.loop-function.function c.code-item.result c.as_slice-code-items.ensures.items c.loop-function-test.true c.code-item.is)
-      (verdict_at c.in_ok-scope.scope (context_of c.args.module.now c.loop-function.function) c.as_slice.result.now c.code-item.result.ops c.in_ok-depth.field-0 (Typed c.in-Typed.depth)
-        c.in_ok-scope.ensures.context c.as_slice.ensures.items c.in-Typed.is c.in_ok-depth.ensures.verdict)
-      c.loop-function.invariant)
+    (code_at c.args.module.now c.as_slice-code-items.result.now c.loop-function.function c.code-item.result c.as_slice-code-items.ensures.items c.loop-function-test.true c.code-item.is)
+    (verdict_at c.in_ok-scope.scope (context_of c.args.module.now c.loop-function.function) c.as_slice.result.now c.code-item.result.ops c.in_ok-depth.field-0 (Typed c.in-Typed.depth)
+    c.in_ok-scope.ensures.context c.as_slice.ensures.items c.in-Typed.is c.in_ok-depth.ensures.verdict)
+    c.loop-function.invariant)
 
 pub returns-clause-typed : goal.returns-clause-typed
 returns-clause-typed c =

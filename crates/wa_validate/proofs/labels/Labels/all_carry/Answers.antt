@@ -6,7 +6,7 @@ use Rattle.wa_validate.proofs.labels.Labels.all_carry.Goals as goal
 
 pub returns-then-not-carries : goal.returns-then-not-carries
 returns-then-not-carries c = record {
-  all = sym (c.loop-label.invariant ∙ carries_one c.args.self.now c.args.carried c.args.labels.now c.loop-label.label-index c.carries.result false c.loop-label-test.true c.carries.ensures.carries c.if-not-carries.true)
+  all = sym (c.loop-label.invariant ∙ carries_one c.args.self.now c.args.carried c.args.labels.now c.loop-label.label-index c.carries.result false c.loop-label-test.true c.carries.ensures.carries c.if-not-carries.true);
 }
 
 pub loop-label-preserved : goal.loop-label-preserved

@@ -10,8 +10,11 @@ use Rattle.wa_validate.proofs.scope.Scope.callee.Goals as goal
 
 pub function_of-requires : goal.function_of-requires
 function_of-requires c = record {
-  typed = (c.in-Some.import.now.name, (callee_some c.self.inside.module.now.types c.self.inside.module.now.imports c.args.function c.in-Some.import.now c.self.invariant
-    (get_some c.self.inside.module.now.imports c.args.function c.get.result c.in-Some.import (subst (λ xs. IsItemAt xs c.args.function c.get.result) c.as_slice.ensures.items c.get.ensures.lookup) c.in-Some.is)).typed)
+  typed = (
+    c.in-Some.import.now.name,
+    (callee_some c.self.inside.module.now.types c.self.inside.module.now.imports c.args.function c.in-Some.import.now c.self.invariant
+        (get_some c.self.inside.module.now.imports c.args.function c.get.result c.in-Some.import (subst (λ xs. IsItemAt xs c.args.function c.get.result) c.as_slice.ensures.items c.get.ensures.lookup) c.in-Some.is)).typed,
+  );
 }
 
 pub returns-in-Some-clause-some : goal.returns-in-Some-clause-some
