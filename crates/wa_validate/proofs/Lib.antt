@@ -1,0 +1,5 @@
+pub mod Names
+pub mod Carrying
+pub mod Flat
+pub mod Bounds
+pub mod Judging
