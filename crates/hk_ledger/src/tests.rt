@@ -189,10 +189,26 @@ fn result_of(
     Ok((report.result, report.fee, left, got))
 }
 
+// A balance of A, a transaction, its result and its fee, and the balances of A and B behind it.
+type Row = (u64, Case, ResultName, u64, u64, u64);
+
+// The first row that isn't as it says.
+fn first_wrong(alloc: Global, rows: &[Row]) -> Result<Option<usize>, NoMemory> {
+    for (place, (balance, case, name, fee, left, got)) in rows.iter().enumerate() {
+        if *balance < 50_000_000_000_000_000 {
+            let (result, taken, a, b) = result_of(alloc, *balance, case)?;
+            if result != Some(*name) || taken != *fee || a != *left || b != *got {
+                return Ok(Some(place));
+            }
+        }
+    }
+    Ok(None)
+}
+
 #[test]
-fn gives_the_first_result(rt: HostRuntime) -> Result<(), NoMemory> {
+fn refuses_by_signature_account_and_sequence(rt: HostRuntime) -> Result<(), NoMemory> {
     let p = PAYMENT;
-    let cases = [
+    let rows = [
         (
             20_000_000,
             Case {
@@ -241,6 +257,15 @@ fn gives_the_first_result(rt: HostRuntime) -> Result<(), NoMemory> {
             20_000_000,
             10_000_000,
         ),
+    ];
+    assert_eq!(rt; first_wrong(rt.alloc(), &rows)?, None);
+    Ok(())
+}
+
+#[test]
+fn refuses_by_ledger_and_fee(rt: HostRuntime) -> Result<(), NoMemory> {
+    let p = PAYMENT;
+    let rows = [
         (
             20_000_000,
             Case {
@@ -284,18 +309,15 @@ fn gives_the_first_result(rt: HostRuntime) -> Result<(), NoMemory> {
             9,
             10_000_000,
         ),
-        (
-            10,
-            Case {
-                to: A,
-                other_amounts: true,
-                ..p
-            },
-            ResultName::Unsupported,
-            10,
-            0,
-            10_000_000,
-        ),
+    ];
+    assert_eq!(rt; first_wrong(rt.alloc(), &rows)?, None);
+    Ok(())
+}
+
+#[test]
+fn fails_with_a_fee(rt: HostRuntime) -> Result<(), NoMemory> {
+    let p = PAYMENT;
+    let rows = [
         (
             10,
             Case {
@@ -341,6 +363,26 @@ fn gives_the_first_result(rt: HostRuntime) -> Result<(), NoMemory> {
             10_000_000,
         ),
         (
+            20_000_000,
+            Case {
+                amount: Amount::Native(9_999_991),
+                ..p
+            },
+            ResultName::Unfunded,
+            10,
+            19_999_990,
+            10_000_000,
+        ),
+    ];
+    assert_eq!(rt; first_wrong(rt.alloc(), &rows)?, None);
+    Ok(())
+}
+
+#[test]
+fn succeeds_at_the_edges(rt: HostRuntime) -> Result<(), NoMemory> {
+    let p = PAYMENT;
+    let rows = [
+        (
             20_000_010,
             Case {
                 to: C,
@@ -350,17 +392,6 @@ fn gives_the_first_result(rt: HostRuntime) -> Result<(), NoMemory> {
             ResultName::Success,
             10,
             10_000_000,
-            10_000_000,
-        ),
-        (
-            20_000_000,
-            Case {
-                amount: Amount::Native(9_999_991),
-                ..p
-            },
-            ResultName::Unfunded,
-            10,
-            19_999_990,
             10_000_000,
         ),
         (
@@ -411,13 +442,7 @@ fn gives_the_first_result(rt: HostRuntime) -> Result<(), NoMemory> {
             10_000_000,
         ),
     ];
-    for (balance, case, name, fee, left, got) in &cases {
-        if *balance >= 50_000_000_000_000_000 {
-            continue;
-        }
-        let result = result_of(rt.alloc(), *balance, case)?;
-        assert_eq!(rt; result, (Some(*name), *fee, *left, *got));
-    }
+    assert_eq!(rt; first_wrong(rt.alloc(), &rows)?, None);
     Ok(())
 }
 
