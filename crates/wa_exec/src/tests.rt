@@ -1,11 +1,11 @@
-use crate::{CheckFault, Export, HEAD, Instance, check};
+use crate::{CheckFault, Ended, Export, HEAD, Instance, check};
 use hk_base::Outcome;
 use std::alloc::{AllocError, Global};
 use std::process::Abort;
 
 /// The code of the form that is taken, around these instructions.
 fn code_of(alloc: Global, instructions: &[u8]) -> Result<Vec<u8>, AllocError> {
-    let length = instructions.len() as u8;
+    let length = (instructions.len() % 256) as u8;
     let mut code = Vec::from_slice(alloc, &HEAD)?;
     code.extend_from_slice(&[0x0a, length.wrapping_add(3), 1, length.wrapping_add(1), 0])?;
     code.extend_from_slice(instructions)?;
@@ -21,14 +21,14 @@ fn run(rt: &impl Abort, alloc: Global, instructions: &[u8]) -> Option<(bool, i64
         Err(CheckFault::NoMemory) => panic!(rt; "memory for the check"),
     };
     let instance = Instance::new(alloc, &checked, Export::Hook, 0).expect(rt, "memory for the run");
-    let ended = instance.run(&checked);
+    let Ended { outcome, count } = instance.run(&checked);
     let bound = checked.bound_hook();
-    match ended.outcome {
+    match outcome {
         Outcome::Accepted { code, text } => {
             assert_eq!(rt; text.len(), 0);
-            Some((true, code, ended.count, bound))
+            Some((true, code, count, bound))
         }
-        Outcome::Returned { code } => Some((false, code, ended.count, bound)),
+        Outcome::Returned { code } => Some((false, code, count, bound)),
         _ => panic!(rt; "another outcome"),
     }
 }
