@@ -98,52 +98,55 @@ fn instructions(alloc: Global, code: &[u8]) -> Result<String, NoMemory> {
 #[test]
 fn numbers_of_every_length(rt: HostRuntime) -> Result<(), Fail> {
     let rows: [(&[u8], &str); 29] = [
-        (&[0x10, 0x00], "Call(0)"),
-        (&[0x10, 0x7F], "Call(127)"),
-        (&[0x10, 0x80, 0x01], "Call(128)"),
-        (&[0x10, 0x80, 0x00], "Call(0)"),
-        (&[0x10, 0x80, 0x80, 0x01], "Call(16384)"),
-        (&[0x10, 0x80, 0x80, 0x80, 0x01], "Call(2097152)"),
-        (&[0x10, 0xFF, 0xFF, 0xFF, 0xFF, 0x0F], "Call(4294967295)"),
-        (&[0x10, 0x80, 0x80, 0x80, 0x80, 0x00], "Call(0)"),
+        (&[0x10, 0x00], "[Call(0), End]"),
+        (&[0x10, 0x7F], "[Call(127), End]"),
+        (&[0x10, 0x80, 0x01], "[Call(128), End]"),
+        (&[0x10, 0x80, 0x00], "[Call(0), End]"),
+        (&[0x10, 0x80, 0x80, 0x01], "[Call(16384), End]"),
+        (&[0x10, 0x80, 0x80, 0x80, 0x01], "[Call(2097152), End]"),
+        (
+            &[0x10, 0xFF, 0xFF, 0xFF, 0xFF, 0x0F],
+            "[Call(4294967295), End]",
+        ),
+        (&[0x10, 0x80, 0x80, 0x80, 0x80, 0x00], "[Call(0), End]"),
         (&[0x10, 0x80, 0x80, 0x80, 0x80, 0x10], "Malformed"),
         (&[0x10, 0x80, 0x80, 0x80, 0x80, 0x80, 0x00], "Malformed"),
-        (&[0x41, 0x3F], "I32Const(63)"),
-        (&[0x41, 0x40], "I32Const(-64)"),
-        (&[0x41, 0x7F], "I32Const(-1)"),
-        (&[0x41, 0xFF, 0x7F], "I32Const(-1)"),
-        (&[0x41, 0xC0, 0x00], "I32Const(64)"),
-        (&[0x41, 0xFF, 0xFF, 0x7F], "I32Const(-1)"),
-        (&[0x41, 0xFF, 0xFF, 0xFF, 0x7F], "I32Const(-1)"),
+        (&[0x41, 0x3F], "[I32Const(63), End]"),
+        (&[0x41, 0x40], "[I32Const(-64), End]"),
+        (&[0x41, 0x7F], "[I32Const(-1), End]"),
+        (&[0x41, 0xFF, 0x7F], "[I32Const(-1), End]"),
+        (&[0x41, 0xC0, 0x00], "[I32Const(64), End]"),
+        (&[0x41, 0xFF, 0xFF, 0x7F], "[I32Const(-1), End]"),
+        (&[0x41, 0xFF, 0xFF, 0xFF, 0x7F], "[I32Const(-1), End]"),
         (
             &[0x41, 0xFF, 0xFF, 0xFF, 0xFF, 0x07],
-            "I32Const(2147483647)",
+            "[I32Const(2147483647), End]",
         ),
         (
             &[0x41, 0x80, 0x80, 0x80, 0x80, 0x78],
-            "I32Const(-2147483648)",
+            "[I32Const(-2147483648), End]",
         ),
         (&[0x41, 0x80, 0x80, 0x80, 0x80, 0x08], "Malformed"),
         (&[0x41, 0xFF, 0xFF, 0xFF, 0xFF, 0x4F], "Malformed"),
         (&[0x41, 0xFF, 0xFF, 0xFF, 0xFF, 0xFF, 0x7F], "Malformed"),
-        (&[0x42, 0x7F], "I64Const(-1)"),
+        (&[0x42, 0x7F], "[I64Const(-1), End]"),
         (
             &[
                 0x42, 0x80, 0x80, 0x80, 0x80, 0x80, 0x80, 0x80, 0x80, 0x80, 0x00,
             ],
-            "I64Const(0)",
+            "[I64Const(0), End]",
         ),
         (
             &[
                 0x42, 0x80, 0x80, 0x80, 0x80, 0x80, 0x80, 0x80, 0x80, 0x80, 0x7F,
             ],
-            "I64Const(-9223372036854775808)",
+            "[I64Const(-9223372036854775808), End]",
         ),
         (
             &[
                 0x42, 0xFF, 0xFF, 0xFF, 0xFF, 0xFF, 0xFF, 0xFF, 0xFF, 0xFF, 0x00,
             ],
-            "I64Const(9223372036854775807)",
+            "[I64Const(9223372036854775807), End]",
         ),
         (
             &[
@@ -168,12 +171,7 @@ fn numbers_of_every_length(rt: HostRuntime) -> Result<(), Fail> {
         let mut code = Vec::from_slice(rt.alloc(), number)?;
         code.push(0x0B)?;
         let found = instructions(rt.alloc(), &code)?;
-        if text == "Malformed" {
-            assert_eq!(rt; found.as_str(), text);
-        } else {
-            let wanted = format!(in rt.alloc(); "[{text}, End]")?;
-            assert_eq!(rt; found.as_str(), wanted.as_str());
-        }
+        assert_eq!(rt; found.as_str(), text);
     }
     Ok(())
 }
