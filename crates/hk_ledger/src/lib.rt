@@ -12,8 +12,6 @@ mod overlay;
 mod reading;
 mod replay;
 mod report;
-#[cfg(test)]
-mod tests;
 mod transactions;
 mod transactor;
 mod world;
