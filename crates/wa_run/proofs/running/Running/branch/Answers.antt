@@ -1,0 +1,60 @@
+use Rattle.std.proofs.Common.{◌+◌, ap, arith, length, length-drop, refl, rules, sym, ◌∙◌}
+use Rattle.std.proofs.lemmas.Int.{to_z-of_z}
+use Rattle.std.specs.Int.{cast_signed, w64}
+use Rattle.wa_run.proofs.Leaving.{branch_needs_label, branch_needs_result, branch_needs_cut, branch_needs_carry, branch_inner_follows, branch_loop_follows, branch_returns, returned_follows}
+use Rattle.wa_run.proofs.running.Running.branch.Goals as goal
+
+pub unwind-requires : goal.unwind-requires
+unwind-requires g c = record { some = omega (arith, branch_needs_label _ c.args.label c.args.self.now c.requires.branches) }
+
+pub close-named-requires : goal.close-named-requires
+close-named-requires g c = record {
+  some = omega (arith, ap length c.unwind.ensures.items, length-drop c.args.label c.args.self.now.labels.items, branch_needs_label _ c.args.label c.args.self.now c.requires.branches);
+}
+
+pub open-requires : goal.open-requires
+open-requires g c = record {
+  room = omega (
+    arith,
+    ap length c.unwind.ensures.items,
+    length-drop c.args.label c.args.self.now.labels.items,
+    branch_needs_label _ c.args.label c.args.self.now c.requires.branches,
+    ap length c.close-named.ensures.items,
+  );
+}
+
+pub top-requires : goal.top-requires
+top-requires g c = record {
+  some = branch_needs_result _ c.args.label c.close-named.result c.close-named.new.self.items c.args.self.now (sym c.unwind.ensures.items ∙ c.close-named.ensures.items) c.in-Body.is c.requires.branches;
+}
+
+pub carry-requires-clause-height : goal.carry-requires-clause-height
+carry-requires-clause-height g c =
+    branch_needs_carry _ c.args.label c.close-named.result c.close-named.new.self.items c.args.self.now (sym c.unwind.ensures.items ∙ c.close-named.ensures.items) c.in-Inner.is c.requires.branches
+
+pub cut-requires : goal.cut-requires
+cut-requires g c = record {
+  height = branch_needs_cut _ c.args.label c.close-named.result c.close-named.new.self.items c.args.self.now (sym c.unwind.ensures.items ∙ c.close-named.ensures.items) c.requires.branches;
+}
+
+pub returns-in-Body : goal.returns-in-Body
+returns-in-Body g c = record {
+  branches = λ count d ops ends region around operands b s.
+      returned_follows ops ends _ d (record d { count = count }) c.args.self.now.store.words.items _ (record c.args.self.now { labels = c.close-named.new.self })
+      (branch_returns c.args.label c.close-named.result c.close-named.new.self.items c.args.self.now (sym c.unwind.ensures.items ∙ c.close-named.ensures.items) c.in-Body.is count d ops ends region around operands b s) refl
+      (λ word below p. to_z-of_z w64 c.cast_signed.result (search rules) ∙ c.cast_signed.ensures ∙ ap (cast_signed w64) (c.top.ensures.top word below p));
+}
+
+pub returns-in-Inner : goal.returns-in-Inner
+returns-in-Inner g c = record {
+  branches = branch_inner_follows c.args.label c.close-named.result c.close-named.new.self.items c.args.self.now
+      (record c.args.self.now { at = c.close-named.result.last + 1; labels = c.close-named.new.self; store = record c.args.self.now.store { words = c.carry.new.self } })
+      (sym c.unwind.ensures.items ∙ c.close-named.ensures.items) c.in-Inner.is refl refl (record { locals = refl; globals = refl; memory = refl }) c.carry.ensures.items refl;
+}
+
+pub returns-in-Loop : goal.returns-in-Loop
+returns-in-Loop g c = record {
+  branches = branch_loop_follows c.args.label c.in-Loop.start c.close-named.result c.close-named.new.self.items c.args.self.now
+      (record c.args.self.now { at = c.in-Loop.start; labels = c.open.new.self; store = record c.args.self.now.store { words = c.cut.new.self } })
+      (sym c.unwind.ensures.items ∙ c.close-named.ensures.items) c.in-Loop.is refl c.open.ensures.items (record { locals = refl; globals = refl; memory = refl }) c.cut.ensures.items refl;
+}

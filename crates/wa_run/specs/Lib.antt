@@ -1,0 +1,4 @@
+pub mod Acts
+pub mod Flat
+pub mod Room
+pub mod Running

@@ -1,0 +1,10 @@
+//! The interpreter of flat code, in part: its memory, the plain instructions on words and variables, and those that open, close
+//! and leave regions. No public call stands on them yet.
+#![tactic(auto)]
+
+mod guards;
+mod label;
+mod labels;
+mod running;
+mod store;
+mod words;

@@ -1,0 +1,96 @@
+//! The operands of a run as untyped words.
+ghost use Rattle.std.specs.Prelude.{ℕ, List, ◌≡◌, ◌+◌, ◌-◌, ◌∷◌, ◌++◌, ◌<◌, ◌≤◌, [], length, drop, if◌then◌else◌, IfOk};
+ghost use Rattle.wa_run.specs.Flat.{carried_words};
+
+use std::alloc::Global;
+use std::marker::Model;
+use wa_ops::NoMemory;
+
+/// Words in memory that is taken once; contracts see them from the last pushed on.
+#[derive(Debug, Drop)]
+pub(crate) struct Words {
+    words: Vec<u64>,
+}
+
+impl Model for Words {
+    ghost use Rattle.std.specs.Prelude.{ℕ, List, reverse, vec_capacity};
+    ghost use Rattle.wa_run.specs.Room.{Words};
+
+    ghost Value = { Words };
+
+    ghost view = { λ w. record { items = reverse w.words.items; room = vec_capacity w.words } };
+}
+
+impl Words {
+    pub(crate) fn with_room(alloc: Global, room: usize) -> Result<Words, NoMemory>
+        ensures empty { IfOk result (λ words. words.items ≡ []) }
+        ensures room { IfOk result (λ words. room ≤ words.room) }
+    {
+        let words = Vec::with_capacity(alloc, room)?;
+        Ok(Words { words })
+    }
+
+    pub(crate) fn len(&self) -> usize
+        ensures length { result ≡ length self.now.items }
+    {
+        self.words.len()
+    }
+
+    pub(crate) fn push(&mut self, word: u64)
+        requires room { length self.old.items < self.old.room }
+        ensures items { self.new.items ≡ word ∷ self.old.items }
+        ensures room { self.old.room ≤ self.new.room }
+    {
+        match self.words.push(word) {
+            Ok(()) => {}
+            Err(_) => unreachable!(),
+        }
+    }
+
+    pub(crate) fn pop(&mut self) -> u64
+        requires some { 0 < length self.old.items }
+        ensures items { self.old.items ≡ result ∷ self.new.items }
+        ensures room { self.old.room ≤ self.new.room }
+    {
+        match self.words.pop() {
+            Some(word) => word,
+            None => unreachable!(),
+        }
+    }
+
+    /// The last word that was pushed.
+    pub(crate) fn top(&self) -> u64
+        requires some { 0 < length self.now.items }
+        ensures top { (word : ℕ) (words : List ℕ) → self.now.items ≡ word ∷ words → result ≡ word }
+    {
+        match self.words.last() {
+            Some(word) => *word,
+            None => unreachable!(),
+        }
+    }
+
+    /// Keeps the first `height` words that were pushed.
+    pub(crate) fn cut(&mut self, height: usize)
+        requires height { height ≤ length self.old.items }
+        ensures items { self.new.items ≡ drop (length self.old.items - height) self.old.items }
+        ensures room { self.old.room ≤ self.new.room }
+    {
+        self.words.truncate(height);
+    }
+
+    /// Keeps the first `height` words that were pushed, and the last one where a result is carried.
+    pub(crate) fn carry(&mut self, height: usize, carries: bool)
+        requires height { (if carries then 1 else 0) + height ≤ length self.old.items }
+        requires room { length self.old.items ≤ self.old.room }
+        ensures items { self.new.items ≡ carried_words carries self.old.items ++ drop (length self.old.items - height) self.old.items }
+        ensures room { self.old.room ≤ self.new.room }
+    {
+        if carries {
+            let word = self.pop();
+            self.cut(height);
+            self.push(word);
+        } else {
+            self.cut(height);
+        }
+    }
+}
