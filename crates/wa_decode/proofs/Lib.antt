@@ -7,3 +7,4 @@ pub mod NumberReaders
 pub mod PartReaders
 pub mod Powers
 pub mod Readers
+pub mod Soundness

@@ -19,6 +19,11 @@ IsSigned bits z (b ∷ bs) =
     ⊎ ((64 ≤ b) × (b < 128) × (128 ≤ b + 2 ^ (bits - 1)) × (z ≡ (pos b -ℤ pos 128)) × (bs ≡ []))
     ⊎ ((128 ≤ b) × (7 < bits) × (high : ℤ) × (z ≡ (pos (b - 128) +ℤ (pos 128 *ℤ high))) × IsSigned (bits - 7) high bs)
 
+-- a number of so many bits, more than none, takes at most ceil(bits / 7) bytes
+pub record NumberLengths : Type 0 where
+  pub unsigned : (bits n : ℕ) (bytes : List ℕ) → 0 < bits → IsUnsigned bits n bytes → 7 * length bytes ≤ bits + 6
+  pub signed : (bits : ℕ) (z : ℤ) (bytes : List ℕ) → 0 < bits → IsSigned bits z bytes → 7 * length bytes ≤ bits + 6
+
 -- what the first spells, and behind it what the second does
 abbrev pub Then : (List ℕ → Type 0) → (List ℕ → Type 0) → List ℕ → Type 0
 Then First Second bytes = (front : List ℕ) × (rest : List ℕ) × First front × Second rest × (bytes ≡ front ++ rest)

@@ -1,8 +1,10 @@
 ghost use Rattle.std.specs.Prelude.{◌≡◌, IfOk, IsErrOf};
+ghost use Rattle.wa_decode.specs.Grammar.{NumberLengths};
 ghost use Rattle.wa_decode.specs.ModuleReading.{behind, module_at, parts_at};
 ghost use Rattle.wa_decode.specs.Modules.{OneModule, Spells, header};
 ghost use Rattle.wa_decode.specs.Reading.{Gives};
 ghost use Rattle.wa_decode.specs.Views.{views};
+ghost use Rattle.wa_ops.specs.Soundness.{IsSound};
 ghost use Rattle.wa_ops.specs.declared.modules.Module.{Module as SpelledModule};
 
 use crate::codes::Codes;
@@ -24,6 +26,7 @@ const HEADER: [u8; 8] = [0x00, 0x61, 0x73, 0x6D, 0x01, 0x00, 0x00, 0x00];
 /// `Malformed` exactly where the bytes spell no module.
 pub fn decode(alloc: Global, bytes: &[u8]) -> Result<Module, DecodeFault>
     ensures found { IfOk result (λ m. Spells m bytes.now) }
+    ensures sound { IfOk result IsSound }
     ensures malformed { IsErrOf result DecodeFault.Malformed → (m : SpelledModule) → Spells m bytes.now → ⊥ }
 {
     module(alloc, bytes)
@@ -86,4 +89,9 @@ fn parts(alloc: Global, sections: &[RawSection<'_>]) -> Result<Module, DecodeFau
 /// The law that no bytes spell two modules.
 pub fn one_module()
     ensures law { OneModule }
+{}
+
+/// The law that an N-bit number takes at most ceil(N / 7) bytes.
+pub fn number_lengths()
+    ensures law { NumberLengths }
 {}

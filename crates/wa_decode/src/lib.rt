@@ -11,5 +11,8 @@ mod sections;
 mod types;
 mod vectors;
 
-pub use decoding::{decode, one_module};
+pub use decoding::{decode, number_lengths, one_module};
 pub use fault::DecodeFault;
+
+#[cfg(test)]
+mod tests;

@@ -1,3 +1,4 @@
+pub mod Ends
 pub mod Opcodes
 pub mod Sequences
 pub mod Accesses
@@ -6,3 +7,5 @@ pub mod Typing
 pub mod Bound
 pub mod Rows
 pub mod Contexts
+pub mod Soundness
+pub mod HookRules

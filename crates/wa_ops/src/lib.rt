@@ -2,6 +2,7 @@
 #![tactic(auto)]
 
 mod call_no;
+mod ends;
 mod items;
 mod modules;
 mod op;
@@ -9,6 +10,7 @@ mod opcode;
 mod sequence;
 
 pub use call_no::CallNo;
+pub use ends::{behind_by_size, matching_ends};
 pub use items::{Items, NoMemory};
 pub use modules::{
     Code, Element, FuncType, Import, ImportItem, Limits, Module, ModuleExport, ModuleGlobal,
