@@ -61,9 +61,9 @@ has_items (x ∷ xs) = true
 
 abbrev pub context_of : Module → ℕ → Context
 context_of m function = record {
-    calls = calls_of m.imports;
-    locals = parameters_of (function_type m function) ++ locals_of (slice_get m.codes function);
-    globals = global_types m.globals;
-    has_memory = has_items m.memories;
-    result = result_of (function_type m function)
-  }
+  calls = calls_of m.imports;
+  locals = parameters_of (function_type m function) ++ locals_of (slice_get m.codes function);
+  globals = global_types m.globals;
+  has_memory = has_items m.memories;
+  result = result_of (function_type m function);
+}
