@@ -1,10 +1,11 @@
 pub mod Ends
 pub mod Opcodes
 pub mod Sequences
-pub mod Soundness
 pub mod Accesses
 pub mod Callees
 pub mod Typing
 pub mod Bound
 pub mod Rows
 pub mod Contexts
+pub mod Soundness
+pub mod HookRules

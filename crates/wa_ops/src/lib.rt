@@ -7,6 +7,8 @@ mod items;
 mod modules;
 mod op;
 mod opcode;
+mod rows;
+mod rule_fault;
 mod sequence;
 
 pub use call_no::CallNo;
@@ -18,6 +20,8 @@ pub use modules::{
 };
 pub use op::{Op, ValueType};
 pub use opcode::{Form, form_of};
+pub use rows::{call_answer, call_by_name, call_parameters};
+pub use rule_fault::RuleFault;
 pub use sequence::{one_tree, tree_reads};
 
 #[cfg(test)]
