@@ -1,0 +1,7 @@
+use Rattle.std.proofs.Common.{◌≡◌, drop}
+use Rattle.std.specs.Prelude.{find}
+use Rattle.wa_ops.specs.HookRules.{is_cbak}
+use Rattle.hk_rules.proofs.guards.cbak_of.Given as goal
+
+abbrev pub invariant-loop-export : goal.invariant-loop-export
+invariant-loop-export l = find is_cbak (drop l.export-index l.exports) ≡ find is_cbak l.exports

@@ -1,0 +1,5 @@
+pub mod Answers
+pub mod Guards
+pub mod Imports
+pub mod Loops
+pub mod Passing
