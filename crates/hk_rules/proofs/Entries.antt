@@ -1,5 +1,5 @@
 -- The export that a rule says is there.
-use Rattle.std.proofs.Common.{ℕ, ◌≡◌, ◌-◌, ◌||◌, List, [], ◌∷◌, ◌∙◌, not, Bool, true, false, Option, Some, refl, sym, ap}
+use Rattle.std.proofs.Common.{ℕ, ◌≡◌, ◌-◌, ◌||◌, List, [], ◌∷◌, not, Bool, true, false, Some, refl}
 use Rattle.std.specs.List.{list_any}
 use Rattle.std.specs.Prelude.{find, if◌then◌else◌, option_map, unwrap_or}
 use Rattle.wa_ops.specs.declared.modules.ModuleExport.{ModuleExport}

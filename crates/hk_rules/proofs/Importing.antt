@@ -1,6 +1,6 @@
 -- The rows of the imports read so far.
-use Rattle.std.proofs.Common.{ℕ, ◌≡◌, ◌<◌, ◌≤◌, ◌+◌, ◌++◌, ◌&&◌, zero, suc, List, [], ◌∷◌, ◌∙◌, not, Bool, true, false, Option, Some, None, refl, sym, ap, ap₂, length, get_or, drop, below_more, arith}
-use Rattle.std.specs.Prelude.{slice_get, map, codes, leb}
+use Rattle.std.proofs.Common.{ℕ, ◌≡◌, ◌<◌, ◌≤◌, ◌+◌, ◌++◌, ◌&&◌, suc, List, [], ◌∷◌, ◌∙◌, not, Bool, true, false, Option, Some, refl, sym, ap, ap₂, length, get_or, drop, below_more, arith}
+use Rattle.std.specs.Prelude.{codes, leb}
 use Rattle.std.specs.Str.{bytes_eq}
 use Rattle.wa_ops.specs.declared.call_no.CallNo.{CallNo}
 use Rattle.wa_ops.specs.declared.modules.FuncType.{FuncType}
@@ -12,7 +12,6 @@ use Rattle.wa_ops.specs.Contexts.{callee_of_row, called, calls_of}
 use Rattle.wa_ops.specs.HookRules.{passes, is_row_item, is_api_import, import_rules, IsFirst}
 use Rattle.wa_ops.specs.Rows.{row_named}
 use Rattle.hk_rules.specs.Imports.{callees, rows_named, found_rows, AreRows, IsRowOf}
-use Rattle.wa_ops.specs.declared.rule_fault.RuleFault.{RuleFault}
 use Rattle.wa_ops.specs.declared.rule_fault.RuleFault.TheVariants as fault
 use Rattle.hk_rules.proofs.Least.{passes_at, passes_past, item_found}
 use Rattle.std.proofs.Math.Seq.{drop-cons}

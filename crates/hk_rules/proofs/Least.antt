@@ -1,15 +1,13 @@
 -- From the least place to the first rule that is broken.
-use Rattle.std.proofs.Common.{subst, ℕ, ◌≡◌, ◌<◌, ◌≤◌, ◌⊎◌, ◌&&◌, inl, inr, List, [], ◌∷◌, ◌++◌, length, Bool, true, false, Option, Some, None, refl, sym, ap, ◌∙◌, arith, nat_lt}
+use Rattle.std.proofs.Common.{subst, ℕ, ◌≡◌, ◌<◌, ◌≤◌, inl, inr, List, [], ◌∷◌, ◌++◌, length, Bool, true, false, Some, refl, sym, ap, ◌∙◌, arith}
 use Rattle.std.specs.Prelude.{slice_get, Result, Ok, Err, IsErrAnd, IfErr, ◌≢◌}
 use Rattle.wa_ops.specs.declared.rule_fault.RuleFault.TheVariants.{NoMemory}
 use Rattle.std.proofs.lemmas.Result.{err_from_is_err_and}
 use Rattle.hk_rules.specs.Answers.{Judges}
 use Rattle.std.specs.Option.{option_map_or}
 use Rattle.std.proofs.lemmas.Option.{slice_get_past}
-use Rattle.wa_ops.specs.declared.modules.Code.{Code}
-use Rattle.wa_ops.specs.declared.op.Op.{Op}
 use Rattle.wa_ops.specs.declared.rule_fault.RuleFault.{RuleFault}
-use Rattle.wa_ops.specs.HookRules.{Rule, passes, in_code, item_rule, code_rule, module_rule, IsNowhere, IsLeast, IsFault, IsFirst, AreKept, Precedes}
+use Rattle.wa_ops.specs.HookRules.{Rule, passes, item_rule, code_rule, module_rule, IsFirst, AreKept, Precedes}
 
 -- what a test says of the item at an index
 pub passes_at : {A : Type 0} (test : A → Bool) (xs : List A) (i : ℕ) (x : A) → slice_get xs i ≡ Some x → passes test xs i ≡ test x

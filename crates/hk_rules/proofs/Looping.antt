@@ -6,11 +6,11 @@ use Rattle.std.proofs.Math.Seq.{drop-cons}
 use Rattle.std.proofs.Math.ListN.{drop_of_length-le}
 use Rattle.wa_ops.specs.declared.modules.Code.{Code}
 use Rattle.wa_ops.specs.declared.op.Op.{Op}
-use Rattle.wa_ops.specs.declared.op.Op.TheVariants.{Block, Loop, If, Else, End, I32Const}
-use Rattle.wa_ops.specs.Bound.{loop_cost, loops}
+use Rattle.wa_ops.specs.declared.op.Op.TheVariants.{Loop, Else, End, I32Const}
+use Rattle.wa_ops.specs.Bound.{loops}
 use Rattle.wa_ops.specs.Ends.{behind}
 use Rattle.wa_ops.specs.HookRules.{is_loop}
-use Rattle.wa_ops.specs.Sequences.{Sequence, done, plain, block, loop, if_then, if_else, Nesting, opens_block, opens_loop, opens_if, turns, closes, nesting, stands, IsTree, flat, Reads, IsNested, tree_of}
+use Rattle.wa_ops.specs.Sequences.{Sequence, done, plain, block, loop, if_then, if_else, Nesting, opens_block, opens_loop, opens_if, turns, closes, nesting, stands, IsTree, flat, Reads, IsNested}
 use Rattle.wa_ops.specs.Soundness.{Each}
 use Rattle.wa_ops.proofs.Parsing.{found_tree}
 use Rattle.hk_rules.specs.declared.guards.LoopGuard.{LoopGuard}

@@ -1,5 +1,5 @@
 -- Exports of one name, from the front.
-use Rattle.std.proofs.Common.{ℕ, ◌≡◌, ◌<◌, ◌≤◌, ◌-◌, ◌||◌, suc, List, [], ◌∷◌, ◌∙◌, Bool, true, false, refl, sym, ap, ap₂, length, get_or, take, drop, arith}
+use Rattle.std.proofs.Common.{ℕ, ◌≡◌, ◌<◌, ◌≤◌, ◌-◌, ◌||◌, suc, List, [], ◌∷◌, ◌∙◌, Bool, true, false, sym, ap, ap₂, length, get_or, take, drop, arith}
 use Rattle.std.proofs.lemmas.List.{take_all}
 use Rattle.std.specs.List.{list_any}
 use Rattle.std.specs.Str.{bytes_eq}

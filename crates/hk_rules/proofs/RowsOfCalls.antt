@@ -1,17 +1,13 @@
 -- What the rows of imports say of calls.
-use Rattle.std.proofs.Common.{ℕ, ◌≡◌, ◌==◌, zero, suc, List, [], ◌∷◌, ◌∙◌, not, Bool, true, false, Option, Some, None, refl, sym, ap, length}
-use Rattle.std.specs.Prelude.{slice_get, is_some, is_none, map, if◌then◌else◌}
+use Rattle.std.proofs.Common.{ℕ, ◌≡◌, ◌==◌, zero, suc, List, [], ◌∷◌, not, Bool, true, false, Some, refl, ap, length}
+use Rattle.std.specs.Prelude.{slice_get, is_some, is_none, if◌then◌else◌}
 use Rattle.std.specs.Option.{option_map_or}
 use Rattle.wa_ops.specs.declared.call_no.CallNo.{CallNo}
-use Rattle.wa_ops.specs.declared.modules.FuncType.{FuncType}
-use Rattle.wa_ops.specs.declared.modules.Import.{Import}
-use Rattle.wa_ops.specs.declared.modules.ImportItem.{ImportItem}
-use Rattle.wa_ops.specs.declared.modules.ImportItem.TheVariants.{Function, Table, Memory, Global}
-use Rattle.wa_ops.specs.Callees.{Callee, guard, accept, rollback, host_call}
-use Rattle.wa_ops.specs.Contexts.{callee_of_row, called, calls_of}
-use Rattle.wa_ops.specs.HookRules.{is_guard, is_row_item, is_api_import}
-use Rattle.wa_ops.specs.Rows.{row_named, row_parameters}
-use Rattle.hk_rules.specs.Imports.{callees, rows_named, found_rows}
+use Rattle.wa_ops.specs.Callees.{guard, accept, rollback, host_call}
+use Rattle.wa_ops.specs.Contexts.{callee_of_row}
+use Rattle.wa_ops.specs.HookRules.{is_guard}
+use Rattle.wa_ops.specs.Rows.{row_parameters}
+use Rattle.hk_rules.specs.Imports.{callees}
 
 pub own_row : (rows : List CallNo) (function : ℕ) → is_none (slice_get (callees rows) function) ≡ not (is_some (slice_get rows function))
 own_row [] function = refl

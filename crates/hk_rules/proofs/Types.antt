@@ -1,5 +1,5 @@
 -- Comparing lists of types from the front.
-use Rattle.std.proofs.Common.{◌≡◌, ◌&&◌, suc, List, [], ◌∷◌, ◌∙◌, Bool, true, false, refl, sym, ap, length}
+use Rattle.std.proofs.Common.{◌≡◌, ◌&&◌, suc, List, [], ◌∷◌, Bool, true, false, refl, ap, length}
 use Rattle.wa_ops.specs.declared.op.ValueType.{ValueType}
 use Rattle.wa_ops.specs.Typing.{is_same_type}
 use Rattle.wa_ops.specs.HookRules.{are_types}

@@ -1,19 +1,16 @@
 -- All rules, put together from the calls that check some of them.
-use Rattle.std.proofs.Common.{ℕ, ◌≡◌, ◌≢◌, ◌<◌, ◌^◌, ◌||◌, suc, List, [], ◌∷◌, ◌++◌, ◌∙◌, Bool, true, false, Option, Some, refl, sym, ap, ap₂, subst, length, not}
-use Rattle.std.specs.Prelude.{Result, IsErrAnd, IfErr}
+use Rattle.std.proofs.Common.{ℕ, ◌≡◌, suc, List, [], ◌∷◌, ◌++◌, ◌∙◌, true, Option, Some, refl, sym, ap, ap₂, subst, length}
 use Rattle.std.specs.List.{list_any}
 use Rattle.wa_ops.specs.declared.call_no.CallNo.{CallNo}
-use Rattle.wa_ops.specs.declared.modules.FuncType.{FuncType}
 use Rattle.wa_ops.specs.declared.modules.Import.{Import}
 use Rattle.wa_ops.specs.declared.modules.Module.{Module}
 use Rattle.wa_ops.specs.declared.rule_fault.RuleFault.{RuleFault}
-use Rattle.wa_ops.specs.declared.rule_fault.RuleFault.TheVariants.{NoMemory}
 use Rattle.wa_ops.specs.Callees.{Callee}
 use Rattle.wa_ops.specs.Contexts.{calls_of}
-use Rattle.wa_ops.specs.HookRules.{Rule, IsFirst, AreKept, IsRuled, float_rules, import_rules, other_rules, hook_rules, has_repeats, is_hook, is_bad_export}
+use Rattle.wa_ops.specs.HookRules.{IsFirst, AreKept, IsRuled, float_rules, import_rules, other_rules, hook_rules, has_repeats, is_hook, is_bad_export}
 use Rattle.hk_rules.specs.Imports.{callees, rows_named, found_rows, AreRows}
 use Rattle.hk_rules.proofs.Entries.{one_hook}
-use Rattle.hk_rules.proofs.Least.{first_front, first_behind, kept_both, exits_known}
+use Rattle.hk_rules.proofs.Least.{first_front, first_behind, kept_both}
 use Rattle.hk_rules.proofs.RowsOfCalls.{length-callees}
 
 -- as many rows as imports

@@ -1,5 +1,5 @@
 -- What a check of some rules answers (this project's own).
-use Rattle.std.specs.Prelude.{ℕ, ◌≡◌, ◌<◌, Bool, true, false, List, [], ◌∷◌, Option, Some, None, Result, Ok, Err}
+use Rattle.std.specs.Prelude.{ℕ, ◌≡◌, ◌<◌, Bool, true, false, List, Option, Some, None, Result, Ok, Err}
 use Rattle.wa_ops.specs.declared.rule_fault.RuleFault.{RuleFault}
 use Rattle.wa_ops.specs.HookRules.{Rule, IsFirst, AreKept}
 

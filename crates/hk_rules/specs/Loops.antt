@@ -1,5 +1,5 @@
 -- The loops of a function's body, and the innermost loop around each instruction (this project's own).
-use Rattle.std.specs.Prelude.{ℕ, ◌≡◌, ◌+◌, List, [], ◌∷◌, ◌++◌, Option, Some, None, length, map}
+use Rattle.std.specs.Prelude.{ℕ, ◌+◌, List, [], ◌∷◌, ◌++◌, Option, Some, None, length, map}
 use Rattle.std.specs.Option.{option_map}
 use Rattle.wa_ops.specs.declared.modules.Code.{Code}
 use Rattle.wa_ops.specs.Bound.{loop_cost, loops}

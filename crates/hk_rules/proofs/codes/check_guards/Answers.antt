@@ -1,4 +1,4 @@
-use Rattle.hk_rules.proofs.Least.{exits_at, judges_tail, tail_rules}
+use Rattle.hk_rules.proofs.Least.{exits_at, judges_tail}
 use Rattle.wa_ops.specs.HookRules.{guard_rules}
 use Rattle.hk_rules.specs.Imports.{callees}
 use Rattle.hk_rules.proofs.codes.check_guards.Goals as goal

@@ -1,4 +1,4 @@
-use Rattle.std.proofs.Common.{◌∙◌, ◌+◌, sym, ap, subst, arith}
+use Rattle.std.proofs.Common.{◌+◌, sym, subst}
 use Rattle.wa_ops.specs.Sequences.{Reads}
 use Rattle.wa_ops.specs.Soundness.{IsSoundBody}
 use Rattle.hk_rules.proofs.Looping.{Gathered, each_at, gathered_next}
