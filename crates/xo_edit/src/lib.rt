@@ -8,3 +8,6 @@ mod part;
 pub use edit::{emplace, erase};
 pub use fault::EditFault;
 pub use part::{subarray, subfield, validate};
+
+#[cfg(test)]
+mod tests;
