@@ -1,10 +1,10 @@
 -- What an edit puts together.
-use Rattle.std.proofs.Common.{◌≡◌, ℕ, ◌+◌, ◌*◌, ◌<◌, ◌≤◌, List, [], ◌∷◌, ◌++◌, length, take, drop, refl, sym, ap, subst, ◌∙◌, arith, append-nil, length-append, length-take, length-drop, inl, inr, ◌⊎◌, Option, Some, None, IsSome}
+use Rattle.std.proofs.Common.{◌≡◌, ℕ, List, [], ◌∷◌, ◌++◌, length, take, drop, refl, sym, ap, subst, ◌∙◌, arith, length-append, length-take, length-drop, Option, IsSome}
 use Rattle.xo_fields.specs.declared.field.FieldId.{FieldId}
 use Rattle.xo_fields.specs.Field.{number}
 use Rattle.xo_object.specs.declared.find.Located.TheVariants.{Found, Absent}
 use Rattle.xo_object.specs.declared.span.Span.{Span}
-use Rattle.xo_object.specs.Item.{Item, spell, lookup, without, with_item}
+use Rattle.xo_object.specs.Item.{Item, spell, without, with_item}
 use Rattle.xo_object.specs.Laws.{OneReading, OneSpelling, Edits}
 use Rattle.xo_object.specs.List.{IsList}
 use Rattle.xo_object.specs.Located.{AllBelow, AllAbove, Locates}
@@ -12,7 +12,7 @@ use Rattle.xo_object.specs.Span.{part}
 use Rattle.xo_object.specs.Value.{IsObject, HasFields}
 use Rattle.xo_edit.specs.Edit.{IsOne, IsField, Emplaces, Erases}
 use Rattle.xo_edit.proofs.ListLemmas.{spell-append, without_at, with_new, with_present}
-use Rattle.xo_edit.proofs.Places.{located_value, cut_at, spell_none}
+use Rattle.xo_edit.proofs.Places.{located_value, spell_none}
 use Rattle.xo_edit.proofs.Reading.{same_fields}
 
 -- the bytes without a field that was located

@@ -1,4 +1,4 @@
-use Rattle.std.proofs.Common.{◌≡◌, ◌++◌, take, sym, ap, subst, ◌∙◌}
+use Rattle.std.proofs.Common.{◌++◌, take, sym, ap, subst, ◌∙◌}
 use Rattle.xo_edit.specs.Edit.{Emplaces}
 use Rattle.xo_edit.proofs.Places.{all_left}
 use Rattle.xo_edit.proofs.Splices.{emplaced_new, emplaced_over}

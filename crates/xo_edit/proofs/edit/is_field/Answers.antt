@@ -1,4 +1,4 @@
-use Rattle.std.proofs.Common.{◌≡◌, ℕ, length, refl, sym, IsTrue, nat_eq, arith}
+use Rattle.std.proofs.Common.{◌≡◌, ℕ, length, refl, IsTrue, nat_eq, arith}
 use Rattle.std.proofs.lemmas.Bool.Decides.{nat_tests}
 use Rattle.xo_object.specs.Value.{HasFields}
 use Rattle.xo_edit.proofs.Reading.{never_true}

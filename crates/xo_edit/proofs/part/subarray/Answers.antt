@@ -1,8 +1,7 @@
-use Rattle.std.proofs.Common.{◌≡◌, refl, subst, sym, length, drop}
+use Rattle.std.proofs.Common.{refl, subst, drop}
 use Rattle.xo_object.specs.Located.{Passes}
 use Rattle.xo_object.specs.Value.{IsArray, HasElements}
-use Rattle.xo_edit.specs.Part.{IsElementAt}
-use Rattle.xo_edit.proofs.Places.{all_left, element_lacks, element_place, element_there}
+use Rattle.xo_edit.proofs.Places.{all_left, element_lacks, element_place}
 use Rattle.xo_edit.proofs.part.subarray.Goals as goal
 
 pub returns-then-before-bytes-clause-doesnt_exist :

@@ -1,4 +1,3 @@
-use Rattle.std.proofs.Common.{◌≡◌, refl}
 use Rattle.xo_edit.proofs.Reading.{fields_or_fault, never_true}
 use Rattle.xo_edit.proofs.part.validate.Goals as goal
 
