@@ -1,5 +1,5 @@
 -- What a builder keeps and writes.
-use Rattle.std.proofs.Common.{◌≡◌, ℕ, zero, suc, ◌+◌, ◌-◌, ◌*◌, ◌<◌, ◌≤◌, ◌==◌, Bool, true, false, List, [], ◌∷◌, ◌++◌, length, take, drop, map, get_or, refl, sym, ap, subst, ◌∙◌, arith, append_assoc, append-nil, length-append, length-drop, Option, Some, None, IsTrue, IsSome, if◌then◌else◌, nat_lt, nat_eq, ◌↔◌}
+use Rattle.std.proofs.Common.{◌≡◌, ℕ, zero, suc, ◌+◌, ◌<◌, ◌≤◌, Bool, true, false, List, [], ◌∷◌, ◌++◌, length, take, drop, get_or, refl, sym, ap, subst, ◌∙◌, arith, append-nil, length-drop, Option, Some, None, IsTrue, IsSome, if◌then◌else◌, nat_lt, nat_eq}
 use Rattle.std.proofs.lemmas.Bool.Decides.{nat_tests}
 use Rattle.std.proofs.lemmas.List.{take-append-drop, take_all, drop_more, take_more, map-append}
 use Rattle.xo_fields.specs.declared.amount.Amount.{Amount}
@@ -9,20 +9,19 @@ use Rattle.xo_fields.specs.declared.form.Form.{Form}
 use Rattle.xo_fields.specs.declared.form.Form.TheVariants.{Object, Array}
 use Rattle.xo_fields.specs.Amount.{IsAmount, AmountGives, amount_bytes}
 use Rattle.xo_fields.specs.Field.{number}
-use Rattle.xo_fields.specs.Form.{form_at}
 use Rattle.xo_fields.specs.Header.{IsField}
 use Rattle.xo_fields.specs.Laws.{OneAmount}
 use Rattle.xo_object.specs.declared.builder.Put.{Put}
 use Rattle.xo_object.specs.declared.fault.ObjectFault.{ObjectFault}
 use Rattle.xo_object.specs.declared.skip.Place.TheVariants.{Fields, Elements}
 use Rattle.xo_object.specs.Builder.{puts, item_put, IsFree}
-use Rattle.xo_object.specs.Fault.{ends, fails, Reads, Comes, BodyFails}
+use Rattle.xo_object.specs.Fault.{ends, fails, Reads}
 use Rattle.xo_object.specs.Item.{Item, lookup, is_same, spell, with_item}
 use Rattle.xo_object.specs.Laws.{OneReading, OneSpelling}
-use Rattle.xo_object.specs.List.{Fits, ListFits, IsList, IsFit}
+use Rattle.xo_object.specs.List.{ListFits, IsList, IsFit}
 use Rattle.xo_object.specs.Located.{AllBelow, AllAbove}
-use Rattle.xo_object.specs.Span.{IsRead, Seen, items, items_of}
-use Rattle.xo_object.specs.Value.{Whole, IsValue, IsObject}
+use Rattle.xo_object.specs.Span.{IsRead, Seen, items}
+use Rattle.xo_object.specs.Value.{IsValue, IsObject}
 use Rattle.xo_object.proofs.ListLemmas.{edits_fit}
 use Rattle.xo_object.proofs.Parts.{asks_less}
 use Rattle.xo_object.proofs.Walk.{lookup_below, lookup_above, spell-append}

@@ -1,6 +1,6 @@
 -- The loop that collects the spans of fields.
-use Rattle.std.proofs.Common.{◌≡◌, ℕ, ◌<◌, ◌≤◌, Bool, true, false, List, [], ◌∷◌, ◌++◌, length, take, drop, map, refl, sym, ap, subst, ◌∙◌, arith, append_assoc, append-nil, inl, inr, All, length-drop}
-use Rattle.std.proofs.lemmas.List.{drop_all, map-append}
+use Rattle.std.proofs.Common.{◌≡◌, ℕ, ◌≤◌, true, false, List, [], ◌∷◌, ◌++◌, length, drop, refl, sym, ap, subst, ◌∙◌, arith, append_assoc, append-nil, inl, inr, All}
+use Rattle.std.proofs.lemmas.List.{map-append}
 use Rattle.std.proofs.lemmas.List.Elements.{All-push}
 use Rattle.xo_fields.specs.declared.field.FieldId.{FieldId}
 use Rattle.xo_fields.specs.declared.form.Form.{Form}
@@ -12,7 +12,7 @@ use Rattle.xo_object.specs.Collected.{Collects}
 use Rattle.xo_object.specs.Laws.{OneReading}
 use Rattle.xo_object.specs.declared.span.Span.{Span}
 use Rattle.xo_object.specs.Item.{Item}
-use Rattle.xo_object.specs.Value.{Head, IsValue, IsObject, IsArray, HasElements}
+use Rattle.xo_object.specs.Value.{Head, IsValue, IsArray, HasElements}
 use Rattle.xo_object.specs.Fault.{is_array, IsEnd, IsNoEnd, HeadFails, BodyFails, Outcome, ends, fails, Comes, Reads}
 use Rattle.xo_object.specs.Span.{part, item_of, items_of, InRange, IsRead, Valued}
 use Rattle.xo_object.proofs.Parts.{asks_less}

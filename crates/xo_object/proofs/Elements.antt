@@ -1,13 +1,12 @@
 -- Lists of elements, one after another.
-use Rattle.std.proofs.Common.{◌≡◌, ℕ, zero, suc, ◌+◌, ◌<◌, ◌≤◌, List, [], ◌∷◌, ◌++◌, length, take, drop, map, get_or, refl, sym, ap, subst, ◌∙◌, arith, append_assoc, append-nil, true, false, Option, Some, None}
+use Rattle.std.proofs.Common.{◌≡◌, ℕ, zero, suc, ◌+◌, ◌<◌, ◌≤◌, List, [], ◌∷◌, ◌++◌, length, take, drop, get_or, refl, sym, ap, subst, ◌∙◌, arith, append_assoc, append-nil, true, Some}
 use Rattle.std.proofs.lemmas.List.{length-map, get_or_default, take-append-drop, drop_more, take_more, map-append, take_all}
-use Rattle.std.specs.Prelude.{unwrap_or}
 use Rattle.xo_fields.specs.declared.field.FieldId.{FieldId}
 use Rattle.xo_object.specs.declared.skip.Place.TheVariants.{Elements}
 use Rattle.xo_object.specs.declared.span.Span.{Span}
 use Rattle.xo_object.specs.declared.transaction.Parameter.{Parameter}
 use Rattle.xo_object.specs.Fault.{ends}
-use Rattle.xo_object.specs.Item.{Item, lookup}
+use Rattle.xo_object.specs.Item.{Item}
 use Rattle.xo_object.specs.Laws.{OneReading}
 use Rattle.xo_object.specs.Names as names
 use Rattle.xo_object.specs.Span.{item_of, items_of}

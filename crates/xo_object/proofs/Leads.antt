@@ -1,12 +1,11 @@
 -- The loop over fields: what stands from a place on leads to the same outcome for all of the bytes.
-use Rattle.std.proofs.Common.{◌≡◌, ℕ, ◌<◌, ◌≤◌, Bool, List, [], ◌∷◌, ◌++◌, refl, sym, ap, ◌∙◌, inl, inr, Option, Some}
+use Rattle.std.proofs.Common.{ℕ, Bool, List, [], ◌∷◌, ◌++◌, ap, ◌∙◌, inl, inr}
 use Rattle.xo_fields.specs.declared.field.FieldId.{FieldId}
 use Rattle.xo_fields.specs.declared.form.Form.{Form}
 use Rattle.xo_fields.specs.Field.{number}
 use Rattle.xo_fields.specs.Header.{header}
 use Rattle.xo_object.specs.declared.fault.ObjectFault.{ObjectFault}
 use Rattle.xo_object.specs.declared.skip.Place.{Place}
-use Rattle.xo_object.specs.Item.{Item}
 use Rattle.xo_object.specs.Value.{Head, Stands, IsValue}
 use Rattle.xo_object.specs.Fault.{is_array, IsEnd, IsNoEnd, HeadFails, BodyFails, Outcome, ends, fails, Reads}
 use Rattle.xo_object.specs.Span.{Valued}

@@ -1,15 +1,14 @@
 -- Lists of fields apart from their bytes.
-use Rattle.std.proofs.Common.{◌≡◌, ℕ, zero, suc, ◌+◌, ◌*◌, ◌<◌, ◌≤◌, ◌==◌, ◌&&◌, Bool, true, false, List, [], ◌∷◌, ◌++◌, length, refl, sym, ap, subst, ◌∙◌, arith, Option, Some, if◌then◌else◌, nat_lt}
+use Rattle.std.proofs.Common.{◌≡◌, ℕ, zero, suc, ◌<◌, ◌≤◌, Bool, true, false, List, [], ◌∷◌, ◌++◌, refl, sym, ap, subst, ◌∙◌, arith, if◌then◌else◌, nat_lt}
 use Rattle.std.proofs.lemmas.Bool.Decides.{nat_tests}
 use Rattle.xo_fields.specs.declared.field.FieldId.{FieldId}
 use Rattle.xo_fields.specs.declared.form.Form.{Form}
 use Rattle.xo_fields.specs.declared.form.Form.TheVariants.{Fixed, Money, Blob, Account, Object, Array}
 use Rattle.xo_fields.specs.Field.{number}
-use Rattle.xo_fields.specs.Form.{form_at}
-use Rattle.xo_fields.specs.Header.{header, IsField}
+use Rattle.xo_fields.specs.Header.{header}
 use Rattle.xo_object.specs.Item.{Item, body, body_of, spell, is_same, without, with_item}
-use Rattle.xo_object.specs.Value.{Allowed, Head, Stands, Goes, Whole, IsValue, IsObject, IsArray}
-use Rattle.xo_object.specs.List.{Fits, ListFits, IsList}
+use Rattle.xo_object.specs.Value.{Goes, IsValue}
+use Rattle.xo_object.specs.List.{Fits, ListFits}
 use Rattle.xo_object.specs.Laws.{OneSpelling, OneArray, MoreRoom, Edits}
 
 -- the bytes are the list spelled, and the list fits

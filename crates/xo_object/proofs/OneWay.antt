@@ -1,5 +1,5 @@
 -- Bytes are read in one way.
-use Rattle.std.proofs.Common.{◌≡◌, ℕ, zero, suc, ◌+◌, ◌*◌, ◌<◌, ◌≤◌, ◌⊎◌, inl, inr, Bool, true, false, List, [], ◌∷◌, ◌++◌, length, take, drop, refl, sym, ap, subst, ◌∙◌, arith, append_assoc, append-nil, length-append, Option, Some, None, IsSome, nat_lt}
+use Rattle.std.proofs.Common.{◌≡◌, ℕ, zero, suc, ◌≤◌, ◌⊎◌, inl, inr, Bool, true, false, List, [], ◌∷◌, ◌++◌, length, take, drop, refl, sym, ap, subst, ◌∙◌, arith, append_assoc, length-append, Some, IsSome}
 use Rattle.std.proofs.lemmas.Bool.Decides.{nat_tests}
 use Rattle.std.proofs.lemmas.List.{take_at, drop_at, append_cancel_right}
 use Rattle.xo_fields.specs.declared.field.FieldId.{FieldId}
@@ -9,7 +9,6 @@ use Rattle.xo_fields.specs.declared.header.HeaderRead.{HeaderRead}
 use Rattle.xo_fields.specs.declared.header.HeaderRead.TheVariants as headers
 use Rattle.xo_fields.specs.declared.length.LengthRead.{LengthRead}
 use Rattle.xo_fields.specs.declared.length.LengthRead.TheVariants as lengths
-use Rattle.xo_fields.specs.declared.amount.Amount.{Amount}
 use Rattle.xo_fields.specs.declared.amount.AmountRead.{AmountRead}
 use Rattle.xo_fields.specs.declared.amount.AmountRead.TheVariants as amounts
 use Rattle.xo_fields.specs.Amount.{IsAmount, AmountGives, amount_bytes}
@@ -19,14 +18,13 @@ use Rattle.xo_fields.specs.Header.{header, IsField, HeaderGives}
 use Rattle.xo_fields.specs.Length.{prefix, LengthGives}
 use Rattle.xo_fields.specs.Laws.{OneHeader, OneHeaderRead, OneLength, OneLengthRead, OneAmount, OneAmountRead}
 use Rattle.xo_object.specs.declared.fault.ObjectFault.{ObjectFault}
-use Rattle.xo_object.specs.declared.fault.ObjectFault.TheVariants as faults
 use Rattle.xo_object.specs.declared.skip.Place.{Place}
 use Rattle.xo_object.specs.declared.skip.Place.TheVariants.{Fields, NestedFields, Elements, NestedElements}
 use Rattle.xo_object.specs.Item.{Item, body}
-use Rattle.xo_object.specs.Value.{Allowed, Head, Stands, Goes, Whole, IsValue}
-use Rattle.xo_object.specs.Fault.{is_array, IsEnd, IsNoEnd, Outcome, ends, fails, HeaderFault, HeadFails, FieldFails, Meets, Comes, AmountFault, BlobFault, AccountFault, BodyFails}
+use Rattle.xo_object.specs.Value.{Allowed, Head, Stands, Whole, IsValue}
+use Rattle.xo_object.specs.Fault.{is_array, IsEnd, Outcome, ends, fails, HeaderFault, FieldFails, Meets, Comes, AmountFault, BlobFault, AccountFault, BodyFails}
 use Rattle.xo_object.specs.Laws.{OneReading, OneField}
-use Rattle.xo_object.proofs.Parts.{disclosed, asks_less}
+use Rattle.xo_object.proofs.Parts.{disclosed}
 
 -- the laws of headers, lengths and amounts
 pub record Below : Type 0 where

@@ -1,10 +1,10 @@
 -- Values as parts of bytes.
-use Rattle.std.proofs.Common.{◌≡◌, ℕ, zero, suc, ◌+◌, ◌-◌, ◌<◌, ◌≤◌, Bool, true, false, List, [], ◌∷◌, ◌++◌, length, take, drop, refl, sym, ap, subst, ◌∙◌, arith, append_assoc, append-nil, length-append, length-take, length-drop}
-use Rattle.std.proofs.Common.{drop-drop, Option, Some}
+use Rattle.std.proofs.Common.{◌≡◌, ℕ, zero, suc, ◌+◌, ◌-◌, ◌<◌, ◌≤◌, Bool, true, false, List, [], ◌∷◌, ◌++◌, length, take, drop, refl, sym, ap, subst, ◌∙◌, arith, append_assoc, length-append, length-take, length-drop}
+use Rattle.std.proofs.Common.{drop-drop, Some}
 use Rattle.std.proofs.lemmas.List.{take-append-drop, take_at}
 use Rattle.xo_fields.specs.declared.field.FieldId.{FieldId}
 use Rattle.xo_fields.specs.declared.form.Form.{Form}
-use Rattle.xo_fields.specs.declared.form.Form.TheVariants.{Fixed, Money, Blob, Account, Object, Array}
+use Rattle.xo_fields.specs.declared.form.Form.TheVariants.{Blob, Account, Object, Array}
 use Rattle.xo_fields.specs.declared.header.HeaderRead.TheVariants as headers
 use Rattle.xo_fields.specs.declared.length.LengthRead.TheVariants as lengths
 use Rattle.xo_fields.specs.Field.{number}
@@ -12,11 +12,10 @@ use Rattle.xo_fields.specs.Form.{form_at}
 use Rattle.xo_fields.specs.Header.{header, HeaderGives}
 use Rattle.xo_fields.specs.Length.{prefix, LengthGives}
 use Rattle.xo_object.specs.declared.fault.ObjectFault.{ObjectFault}
-use Rattle.xo_object.specs.declared.skip.Place.{Place}
-use Rattle.xo_object.specs.declared.skip.Place.TheVariants.{Fields, NestedFields, Elements, NestedElements}
+use Rattle.xo_object.specs.declared.skip.Place.TheVariants.{NestedFields, NestedElements}
 use Rattle.xo_object.specs.Item.{Item, body}
-use Rattle.xo_object.specs.Value.{Allowed, Head, Stands, Goes, Whole, IsValue}
-use Rattle.xo_object.specs.Fault.{Comes, BodyFails, Reads, ends, fails}
+use Rattle.xo_object.specs.Value.{Allowed, Head, Goes, Whole, IsValue}
+use Rattle.xo_object.specs.Fault.{BodyFails, Reads, ends, fails}
 use Rattle.xo_object.specs.Span.{part, Valued}
 
 -- the rest after a part of the rest

@@ -1,5 +1,5 @@
 -- The loops that look for a field, and pass over elements.
-use Rattle.std.proofs.Common.{◌≡◌, ℕ, ◌+◌, ◌-◌, ◌*◌, ◌<◌, ◌≤◌, Bool, true, false, List, [], ◌∷◌, ◌++◌, length, take, drop, refl, sym, ap, subst, ◌∙◌, arith, append_assoc, append-nil, length-append, length-take, length-drop, inl, inr, Option, Some, None, ◌⊎◌}
+use Rattle.std.proofs.Common.{◌≡◌, ℕ, ◌+◌, ◌-◌, ◌<◌, ◌≤◌, Bool, true, false, List, [], ◌∷◌, ◌++◌, length, take, drop, refl, sym, ap, subst, ◌∙◌, arith, append_assoc, append-nil, length-append, length-drop, inl, inr, Some, None, ◌⊎◌}
 use Rattle.std.specs.Prelude.{slice_get, if◌then◌else◌}
 use Rattle.std.proofs.lemmas.Bool.Decides.{nat_tests}
 use Rattle.std.proofs.lemmas.List.{drop_all, take_at}
@@ -8,18 +8,17 @@ use Rattle.xo_fields.specs.declared.field.FieldId.{FieldId}
 use Rattle.xo_fields.specs.declared.form.Form.{Form}
 use Rattle.xo_fields.specs.Field.{number}
 use Rattle.xo_fields.specs.Form.{form_at}
-use Rattle.xo_fields.specs.Header.{header, IsField}
+use Rattle.xo_fields.specs.Header.{header}
 use Rattle.xo_fields.specs.Laws.{OneHeader}
 use Rattle.xo_object.specs.declared.fault.ObjectFault.{ObjectFault}
-use Rattle.xo_object.specs.declared.find.Located.{Located}
 use Rattle.xo_object.specs.declared.find.Located.TheVariants.{Found, Absent}
 use Rattle.xo_object.specs.declared.find.Passed.{Passed}
 use Rattle.xo_object.specs.declared.span.Span.{Span}
 use Rattle.xo_object.specs.Item.{Item, body, body_of, spell, lookup, is_same}
-use Rattle.xo_object.specs.Value.{Allowed, Head, Stands, Goes, IsValue, IsObject, IsArray}
+use Rattle.xo_object.specs.Value.{Head, Stands, Goes, IsValue, IsObject, IsArray}
 use Rattle.xo_object.specs.Fault.{HeadFails, BodyFails}
 use Rattle.xo_object.specs.Span.{part, Valued, FindsElement, FindsValue}
-use Rattle.xo_object.specs.Located.{AllBelow, AllAbove, Cuts, Locates, Passes}
+use Rattle.xo_object.specs.Located.{AllBelow, AllAbove, Locates, Passes}
 use Rattle.xo_object.specs.Laws.{OneField}
 use Rattle.xo_object.proofs.Leads.{field_stands}
 use Rattle.xo_object.proofs.ListLemmas.{listed}

@@ -1,5 +1,5 @@
 -- What a builder's private helpers answer. The public clauses speak of lists alone.
-use Rattle.std.specs.Prelude.{◌≡◌, ℕ, ◌≤◌, List, [], ◌∷◌, length, take, drop, map, Option, Some, None, IsSome}
+use Rattle.std.specs.Prelude.{ℕ, ◌≤◌, List, length, take, drop, map, Option, Some, None, IsSome}
 use Rattle.xo_fields.specs.declared.field.FieldId.{FieldId}
 use Rattle.xo_fields.specs.Field.{number}
 use Rattle.xo_object.specs.declared.builder.Put.{Put}

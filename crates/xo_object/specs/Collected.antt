@@ -1,5 +1,5 @@
 -- What a private helper collects: the spans of the fields up to an end.
-use Rattle.std.specs.Prelude.{◌≡◌, ℕ, List, All}
+use Rattle.std.specs.Prelude.{ℕ, List, All}
 use Rattle.xo_fields.specs.declared.field.FieldId.{FieldId}
 use Rattle.xo_object.specs.declared.skip.Place.{Place}
 use Rattle.xo_object.specs.declared.span.Span.{Span}

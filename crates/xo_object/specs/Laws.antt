@@ -5,7 +5,7 @@ use Rattle.xo_fields.specs.declared.form.Form.{Form}
 use Rattle.xo_object.specs.declared.fault.ObjectFault.{ObjectFault}
 use Rattle.xo_object.specs.declared.skip.Place.{Place}
 use Rattle.xo_object.specs.Item.{Item, spell, without, with_item}
-use Rattle.xo_object.specs.Value.{Stands, IsValue, IsObject, IsArray, Whole}
+use Rattle.xo_object.specs.Value.{Stands, IsValue, IsObject, IsArray}
 use Rattle.xo_object.specs.Fault.{Comes, BodyFails, FieldFails, Outcome}
 use Rattle.xo_object.specs.List.{IsList}
 

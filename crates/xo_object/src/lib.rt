@@ -26,3 +26,6 @@ pub use skip::{Place, Skipped, skip_fields, skip_value};
 pub use span::Span;
 pub use transact::read_transaction;
 pub use transaction::{Grant, HookItem, Parameter, Transaction, copy_parameters};
+
+#[cfg(test)]
+mod tests;

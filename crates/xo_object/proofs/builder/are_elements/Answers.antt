@@ -1,4 +1,4 @@
-use Rattle.std.proofs.Common.{◌≡◌, refl}
+use Rattle.std.proofs.Common.{refl}
 use Rattle.xo_object.proofs.Building.{never_true, elements_whole, elements_or_fault}
 use Rattle.xo_object.proofs.builder.are_elements.Goals as goal
 

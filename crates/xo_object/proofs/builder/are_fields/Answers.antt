@@ -1,4 +1,4 @@
-use Rattle.std.proofs.Common.{◌≡◌, refl}
+use Rattle.std.proofs.Common.{refl}
 use Rattle.xo_object.proofs.Building.{never_true, fields_whole, fields_or_fault}
 use Rattle.xo_object.proofs.builder.are_fields.Goals as goal
 

@@ -1,4 +1,3 @@
-use Rattle.std.proofs.Common.{◌≡◌}
 use Rattle.xo_object.proofs.Building.{amount_refused, amount_whole}
 use Rattle.xo_object.proofs.builder.is_amount.Goals as goal
 

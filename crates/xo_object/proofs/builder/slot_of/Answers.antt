@@ -1,4 +1,4 @@
-use Rattle.std.proofs.Common.{◌≡◌, ◌<◌, ap, sym, subst, arith}
+use Rattle.std.proofs.Common.{ap, arith}
 use Rattle.xo_fields.specs.Field.{number}
 use Rattle.xo_object.specs.declared.builder.Put.{Put}
 use Rattle.xo_object.proofs.Building.{free_before, put_before, below_more}

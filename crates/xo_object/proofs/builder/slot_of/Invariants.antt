@@ -1,4 +1,4 @@
-use Rattle.std.proofs.Common.{◌≡◌, take}
+use Rattle.std.proofs.Common.{take}
 use Rattle.xo_fields.specs.Field.{number}
 use Rattle.xo_object.specs.Builder.{puts}
 use Rattle.xo_object.specs.Located.{AllBelow}

@@ -1,4 +1,4 @@
-use Rattle.std.proofs.Common.{◌≡◌, ap, sym, subst, ◌∙◌, ◌++◌, ◌∷◌, [], arith}
+use Rattle.std.proofs.Common.{ap, sym, subst, ◌∙◌, ◌++◌, ◌∷◌, []}
 use Rattle.xo_object.specs.Item.{spell}
 use Rattle.xo_object.specs.declared.builder.Put.{Put}
 use Rattle.xo_object.specs.List.{IsFit}

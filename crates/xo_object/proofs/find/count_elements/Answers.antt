@@ -1,4 +1,3 @@
-use Rattle.std.proofs.Common.{◌≡◌}
 use Rattle.xo_object.proofs.Walk.{counted}
 use Rattle.xo_object.proofs.find.count_elements.Goals as goal
 

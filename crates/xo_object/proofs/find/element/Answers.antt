@@ -1,4 +1,4 @@
-use Rattle.std.proofs.Common.{◌≡◌, ℕ, ◌<◌, ◌≤◌, List, length, arith}
+use Rattle.std.proofs.Common.{◌≡◌, ℕ, ◌<◌, List, length, arith}
 use Rattle.xo_object.specs.declared.find.Passed.{Passed}
 use Rattle.xo_object.specs.Item.{Item}
 use Rattle.xo_object.specs.Located.{Passes}

@@ -1,4 +1,3 @@
-use Rattle.std.proofs.Common.{◌≡◌}
 use Rattle.xo_object.proofs.Walk.{found_value, absent_value}
 use Rattle.xo_object.proofs.find.find_field.Goals as goal
 

@@ -1,5 +1,4 @@
-use Rattle.std.proofs.Common.{◌≡◌, ◌<◌, ◌≤◌, sym, subst, arith}
-use Rattle.xo_fields.specs.Field.{number}
+use Rattle.std.proofs.Common.{sym, subst, arith}
 use Rattle.xo_object.proofs.Walk.{Behind, behind_none, behind_more, no_head_fault, no_body_fault, absent_before, absent_at_end, found_here}
 use Rattle.xo_object.proofs.find.locate.Goals as goal
 

@@ -1,5 +1,5 @@
-use Rattle.std.proofs.Common.{◌≡◌, ◌<◌, ◌≤◌, sym, subst, arith}
-use Rattle.xo_object.proofs.Walk.{Before, before_none, before_more, no_element_head_fault, no_element_body_fault, passes_all, passes_enough}
+use Rattle.std.proofs.Common.{arith}
+use Rattle.xo_object.proofs.Walk.{before_none, before_more, no_element_head_fault, no_element_body_fault, passes_all, passes_enough}
 use Rattle.xo_object.proofs.find.skip_elements.Goals as goal
 
 pub elements-init : goal.elements-init

@@ -1,4 +1,4 @@
-use Rattle.std.proofs.Common.{◌≡◌, List, ◌-◌, ◌≤◌, length}
+use Rattle.std.proofs.Common.{List, ◌-◌, ◌≤◌, length}
 use Rattle.xo_object.specs.Item.{Item}
 use Rattle.xo_object.specs.Value.{IsArray}
 use Rattle.xo_object.proofs.Walk.{Before}

@@ -1,4 +1,4 @@
-use Rattle.std.proofs.Common.{◌≡◌, sym, ap, arith}
+use Rattle.std.proofs.Common.{arith}
 use Rattle.xo_object.specs.Names.{hook}
 use Rattle.xo_object.specs.Transaction.{HookIs, AreElements}
 use Rattle.xo_object.proofs.Elements.{too_many, more_read, refused_there, whole_read, as_many}

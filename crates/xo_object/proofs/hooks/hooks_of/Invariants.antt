@@ -1,4 +1,4 @@
-use Rattle.std.proofs.Common.{◌≡◌, take}
+use Rattle.std.proofs.Common.{take}
 use Rattle.xo_object.specs.Names.{hook}
 use Rattle.xo_object.specs.Span.{items_of}
 use Rattle.xo_object.specs.Transaction.{Each, IsElement, HookIs}

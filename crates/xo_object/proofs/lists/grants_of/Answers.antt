@@ -1,4 +1,3 @@
-use Rattle.std.proofs.Common.{◌≡◌, sym, ap, arith}
 use Rattle.xo_object.specs.Names.{hook_grant}
 use Rattle.xo_object.specs.Transaction.{GrantIs}
 use Rattle.xo_object.proofs.Elements.{too_many, more_read, refused_there, whole_read}

@@ -1,4 +1,4 @@
-use Rattle.std.proofs.Common.{◌≡◌, ◌∙◌, sym, ap, refl}
+use Rattle.std.proofs.Common.{◌∙◌, sym, refl}
 use Rattle.xo_object.proofs.Elements.{differs_not, differs_more}
 use Rattle.xo_object.proofs.lists.has_name.Goals as goal
 

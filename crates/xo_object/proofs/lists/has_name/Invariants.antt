@@ -1,4 +1,4 @@
-use Rattle.std.proofs.Common.{◌≡◌, take}
+use Rattle.std.proofs.Common.{take}
 use Rattle.xo_object.specs.Transaction.{Differs}
 use Rattle.xo_object.proofs.lists.has_name.Given as goal
 

@@ -1,4 +1,4 @@
-use Rattle.std.proofs.Common.{◌≡◌, ◌∙◌, subst, [], ◌∷◌, ◌++◌, sym, ap, refl, arith}
+use Rattle.std.proofs.Common.{subst, [], sym, refl}
 use Rattle.xo_object.specs.Names.{hook_parameter}
 use Rattle.xo_object.specs.Transaction.{ParameterIs, AllDiffer, Differs}
 use Rattle.xo_object.proofs.Elements.{too_many, more_read, refused_there, twice_there, whole_read, differ_push}

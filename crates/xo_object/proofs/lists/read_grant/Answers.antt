@@ -1,4 +1,4 @@
-use Rattle.std.proofs.Common.{◌≡◌, subst}
+use Rattle.std.proofs.Common.{subst}
 use Rattle.xo_object.specs.Span.{items}
 use Rattle.xo_object.specs.Transaction.{GrantIs}
 use Rattle.xo_object.proofs.Values.{one_list}

@@ -1,4 +1,4 @@
-use Rattle.std.proofs.Common.{◌≡◌, ◌-◌, length}
+use Rattle.std.proofs.Common.{◌-◌, length}
 use Rattle.xo_object.proofs.Collecting.{Collected}
 use Rattle.xo_object.proofs.object.collect.Given as goal
 

@@ -1,4 +1,3 @@
-use Rattle.std.proofs.Common.{◌≡◌}
 use Rattle.xo_object.proofs.Collecting.{array_read, array_or_fault}
 use Rattle.xo_object.proofs.object.read_elements.Goals as goal
 

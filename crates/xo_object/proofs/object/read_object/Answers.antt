@@ -1,4 +1,4 @@
-use Rattle.std.proofs.Common.{◌≡◌, sym, subst}
+use Rattle.std.proofs.Common.{sym, subst}
 use Rattle.xo_object.specs.Span.{IsRead}
 use Rattle.xo_object.proofs.Collecting.{object_read}
 use Rattle.xo_object.proofs.object.read_object.Goals as goal

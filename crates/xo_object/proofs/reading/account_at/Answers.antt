@@ -1,4 +1,4 @@
-use Rattle.std.proofs.Common.{◌≡◌, ap}
+use Rattle.std.proofs.Common.{ap}
 use Rattle.xo_fields.specs.Form.{form_at}
 use Rattle.xo_object.proofs.reading.account_at.Goals as goal
 

@@ -1,4 +1,3 @@
-use Rattle.std.proofs.Common.{◌≡◌}
 use Rattle.xo_object.proofs.Values.{lookup_fits}
 use Rattle.xo_object.proofs.reading.value_at.Goals as goal
 

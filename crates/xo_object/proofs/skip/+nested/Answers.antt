@@ -1,4 +1,4 @@
-use Rattle.std.proofs.Common.{◌≡◌, ℕ, ◌-◌, ◌<◌, ◌≤◌, sym, subst, drop, arith}
+use Rattle.std.proofs.Common.{ℕ, ◌-◌, ◌<◌, sym, subst, drop, arith}
 use Rattle.xo_fields.specs.declared.form.Form.TheVariants.{Object, Array}
 use Rattle.xo_object.specs.Value.{Head}
 use Rattle.xo_object.specs.Fault.{HeadFails, BodyFails}

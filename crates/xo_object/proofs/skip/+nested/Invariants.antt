@@ -1,4 +1,4 @@
-use Rattle.std.proofs.Common.{◌≡◌, ◌+◌, ◌-◌, ◌*◌, ◌≤◌, length, drop}
+use Rattle.std.proofs.Common.{◌+◌, ◌-◌, ◌*◌, ◌≤◌, length, drop}
 use Rattle.xo_object.proofs.Leads.{Leads}
 use Rattle.xo_object.proofs.skip.+nested.Given as goal
 

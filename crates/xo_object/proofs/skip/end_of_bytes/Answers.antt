@@ -1,4 +1,4 @@
-use Rattle.std.proofs.Common.{◌≡◌, ◌≤◌, length, drop, ap, arith, length-drop}
+use Rattle.std.proofs.Common.{length, ap, arith, length-drop}
 use Rattle.xo_object.proofs.skip.end_of_bytes.Goals as goal
 
 pub returns-else-at-bytes-clause-ends : goal.returns-else-at-bytes-clause-ends

@@ -1,4 +1,3 @@
-use Rattle.std.proofs.Common.{◌≡◌, arith}
 use Rattle.xo_object.proofs.Parts.{account_valued}
 use Rattle.xo_object.proofs.skip.skip_account.Goals as goal
 

@@ -1,4 +1,3 @@
-use Rattle.std.proofs.Common.{◌≡◌}
 use Rattle.xo_object.proofs.Parts.{blob_valued}
 use Rattle.xo_object.proofs.skip.skip_blob.Goals as goal
 

@@ -1,4 +1,4 @@
-use Rattle.std.proofs.Common.{◌≡◌, sym}
+use Rattle.std.proofs.Common.{sym}
 use Rattle.xo_fields.specs.declared.header.HeaderRead.TheVariants.{Header}
 use Rattle.xo_object.proofs.Parts.{header_stands}
 use Rattle.xo_object.proofs.skip.start_of.Goals as goal

@@ -1,4 +1,4 @@
-use Rattle.std.proofs.Common.{◌≡◌, subst, Bool, true, Some}
+use Rattle.std.proofs.Common.{subst, true, Some}
 use Rattle.xo_object.specs.Item.{lookup}
 use Rattle.xo_object.specs.Names.{emit_details}
 use Rattle.xo_object.specs.Span.{items}

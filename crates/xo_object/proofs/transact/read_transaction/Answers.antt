@@ -1,4 +1,3 @@
-use Rattle.std.proofs.Common.{◌≡◌}
 use Rattle.xo_object.proofs.Building.{never_true}
 use Rattle.xo_object.proofs.Values.{same_account, same_amount, number_same, paid_same}
 use Rattle.xo_object.proofs.transact.read_transaction.Goals as goal

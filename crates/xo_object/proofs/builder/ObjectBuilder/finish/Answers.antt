@@ -1,4 +1,4 @@
-use Rattle.std.proofs.Common.{◌≡◌, ◌∙◌, ap, sym, subst}
+use Rattle.std.proofs.Common.{◌≡◌, ◌∙◌, ap, subst}
 use Rattle.xo_object.specs.Builder.{puts}
 use Rattle.xo_object.specs.Item.{spell}
 use Rattle.xo_object.specs.List.{IsList}

@@ -1,9 +1,6 @@
-use Rattle.std.proofs.Common.{◌≡◌, ◌∙◌, ap, sym, subst, refl, List, [], ◌∷◌, ◌++◌, take, drop, Option, Some}
-use Rattle.std.specs.Prelude.{IsSome}
-use Rattle.xo_fields.specs.declared.field.FieldId.{FieldId}
-use Rattle.xo_object.specs.declared.builder.Put.{Put}
+use Rattle.std.proofs.Common.{◌∙◌, ap, sym, subst, refl, Some}
 use Rattle.xo_object.specs.Builder.{puts, IsFree}
-use Rattle.xo_object.specs.Item.{Item, lookup, with_item}
+use Rattle.xo_object.specs.Item.{with_item}
 use Rattle.xo_object.specs.List.{IsList}
 use Rattle.xo_object.proofs.Building.{put_at, list_more, free_not_present}
 use Rattle.xo_object.proofs.builder.ObjectBuilder.put.Goals as goal

@@ -1,0 +1,4 @@
+pub mod ListLemmas
+pub mod Reading
+pub mod Places
+pub mod Splices

@@ -1,0 +1,13 @@
+//! Parts and edits of objects that stand as bytes.
+#![tactic(auto)]
+
+mod edit;
+mod fault;
+mod part;
+
+pub use edit::{emplace, erase};
+pub use fault::EditFault;
+pub use part::{subarray, subfield, validate};
+
+#[cfg(test)]
+mod tests;
