@@ -1,0 +1,8 @@
+//! What the bytes of a transaction read as, as a function of the bytes.
+#![tactic(auto)]
+
+mod laws;
+mod reading;
+
+pub use laws::reads_one_way;
+pub use reading::{Reading, read};
