@@ -1,5 +1,5 @@
 -- The amount that bytes are, as a function: it is guessed, and taken where its bytes are these.
-use Rattle.std.specs.Prelude.{ℕ, ℤ, pos, ◌-◌, ◌/◌, ◌%◌, ◌==◌, ◌&&◌, ◌||◌, nat_lt, nat_le, Bool, true, false, List, [], ◌∷◌, length, take, drop, Option, Some, None, is_some, if◌then◌else◌}
+use Rattle.std.specs.Prelude.{ℕ, pos, ◌-◌, ◌/◌, ◌%◌, ◌==◌, ◌&&◌, ◌||◌, nat_lt, nat_le, bytes_eq, Bool, List, [], ◌∷◌, length, take, drop, Option, Some, None, is_some, if◌then◌else◌}
 use Rattle.std.specs.Int.{w64, to_be_bytes, from_be_bytes}
 use Rattle.xo_fields.specs.declared.amount.Amount.{Amount}
 use Rattle.xo_fields.specs.declared.amount.Amount.TheVariants.{Native, Issued}
@@ -7,13 +7,6 @@ use Rattle.xo_fields.specs.declared.amount.Amount.TheVariants.{Native, Issued}
 -- what is taken where the test passes
 abbrev pub only_if : {A : Type 0} → Bool → Option A → Option A
 only_if test taken = if test then taken else None
-
--- the lists are equal
-abbrev pub same : List ℕ → List ℕ → Bool
-same [] [] = true
-same [] (y ∷ ys) = false
-same (x ∷ xs) [] = false
-same (x ∷ xs) (y ∷ ys) = (x == y) && same xs ys
 
 -- positive, biased and mantissa of a decimal's bits are in their ranges
 abbrev pub is_decimal : ℕ → Bool
@@ -23,12 +16,12 @@ is_decimal bits =
 
 -- drops of the number of eight bytes
 abbrev pub native_of : ℕ → List ℕ → Option Amount
-native_of n bytes = only_if (nat_le 4611686018427387904 n && (nat_lt n 9223372036854775808 && same bytes (to_be_bytes w64 n))) (Some (Native (n - 4611686018427387904)))
+native_of n bytes = only_if (nat_le 4611686018427387904 n && (nat_lt n 9223372036854775808 && bytes_eq bytes (to_be_bytes w64 n))) (Some (Native (n - 4611686018427387904)))
 
 -- an issued amount, of the number of its first eight bytes
 abbrev pub issued_of : ℕ → List ℕ → Option Amount
 issued_of n bytes =
-    only_if (nat_le 9223372036854775808 n && (is_decimal (n - 9223372036854775808) && ((length bytes == 48) && same (take 8 bytes) (to_be_bytes w64 n))))
+    only_if (nat_le 9223372036854775808 n && (is_decimal (n - 9223372036854775808) && ((length bytes == 48) && bytes_eq (take 8 bytes) (to_be_bytes w64 n))))
     (Some (Issued (pos (n - 9223372036854775808)) (take 20 (drop 8 bytes)) (drop 28 bytes)))
 
 abbrev pub amount_of : List ℕ → Option Amount

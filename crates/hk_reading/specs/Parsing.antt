@@ -1,5 +1,5 @@
 -- The fields of an object and the elements of an array, as functions of the bytes: each field is guessed from the front, and taken where its bytes are these.
-use Rattle.std.specs.Prelude.{ℕ, zero, suc, ◌==◌, ◌&&◌, ◌||◌, not, nat_lt, nat_le, Bool, true, false, List, [], ◌∷◌, length, take, drop, Option, Some, None}
+use Rattle.std.specs.Prelude.{ℕ, zero, suc, ◌==◌, ◌&&◌, ◌||◌, not, nat_lt, nat_le, bytes_eq, Bool, true, false, List, [], ◌∷◌, length, take, drop, Option, Some, None}
 use Rattle.std.specs.Option.{option_and_then, option_map}
 use Rattle.xo_fields.specs.declared.field.FieldId.{FieldId}
 use Rattle.xo_fields.specs.declared.form.Form.{Form}
@@ -14,7 +14,7 @@ use Rattle.xo_fields.specs.Header.{header}
 use Rattle.xo_fields.specs.Length.{prefix}
 use Rattle.xo_fields.specs.Table.{header_at, length_at}
 use Rattle.xo_object.specs.Item.{Item, spell}
-use Rattle.hk_reading.specs.Amounts.{only_if, same, is_amount, amount_size}
+use Rattle.hk_reading.specs.Amounts.{only_if, is_amount, amount_size}
 
 -- a value at the front of bytes, and the bytes after it
 abbrev pub Found : Type 0
@@ -36,7 +36,7 @@ abbrev pub head_of : Bool → ℕ → List ℕ → HeaderRead → Option (FieldI
 head_of array last bytes headers.Cut = None
 head_of array last bytes headers.Bad = None
 head_of array last bytes (headers.Header f size) =
-    only_if (is_field f && (is_allowed array last f && same (take size bytes) (header f))) (option_map (λ form. (f, form, drop size bytes)) (form_at f.kind))
+    only_if (is_field f && (is_allowed array last f && bytes_eq (take size bytes) (header f))) (option_map (λ form. (f, form, drop size bytes)) (form_at f.kind))
 
 abbrev pub fixed : ℕ → List ℕ → Found
 fixed n bytes = only_if (nat_le n (length bytes)) (Some (take n bytes, drop n bytes))
@@ -45,7 +45,7 @@ fixed n bytes = only_if (nat_le n (length bytes)) (Some (take n bytes, drop n by
 abbrev pub sized : (ℕ → Bool) → List ℕ → LengthRead → Found
 sized fits bytes lengths.Cut = None
 sized fits bytes lengths.Bad = None
-sized fits bytes (lengths.Length n size) = only_if (fits n && same (take size bytes) (prefix n)) (fixed n (drop size bytes))
+sized fits bytes (lengths.Length n size) = only_if (fits n && bytes_eq (take size bytes) (prefix n)) (fixed n (drop size bytes))
 
 abbrev pub money : List ℕ → Found
 money bytes = only_if (is_amount (take (amount_size bytes) bytes)) (fixed (amount_size bytes) bytes)

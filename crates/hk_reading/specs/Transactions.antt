@@ -1,5 +1,5 @@
 -- The transaction that fields are, as a function: it is guessed from the fields, and taken where each rule holds of it.
-use Rattle.std.specs.Prelude.{ℕ, ℤ, pos, negsuc, ◌==◌, ◌&&◌, ◌||◌, not, nat_lt, nat_le, Bool, true, false, List, [], ◌∷◌, ◌++◌, length, Option, Some, None, is_some, unwrap_or}
+use Rattle.std.specs.Prelude.{ℕ, ℤ, pos, negsuc, ◌==◌, ◌&&◌, ◌||◌, not, nat_lt, nat_le, bytes_eq, Bool, true, false, List, [], ◌∷◌, ◌++◌, length, Option, Some, None, is_some, unwrap_or}
 use Rattle.std.specs.Option.{option_and_then, option_map}
 use Rattle.hk_base.specs.declared.ids.AccountId.{AccountId}
 use Rattle.hk_base.specs.Hashes.{tx_id}
@@ -11,7 +11,7 @@ use Rattle.xo_object.specs.declared.transaction.Transaction.{Transaction}
 use Rattle.xo_object.specs.Item.{Item, lookup, is_same}
 use Rattle.xo_object.specs.Names as names
 use Rattle.xo_object.specs.Transaction.{number16, number32, only}
-use Rattle.hk_reading.specs.Amounts.{only_if, same, amount_of}
+use Rattle.hk_reading.specs.Amounts.{only_if, amount_of}
 use Rattle.hk_reading.specs.Parsing.{fields_of, elements_of}
 
 abbrev pub bytes_in : FieldId → List Item → List ℕ
@@ -38,7 +38,7 @@ made_of make (x ∷ xs) = option_and_then (λ y. option_map (λ ys. y ∷ ys) (m
 
 abbrev pub differs : List ℕ → List Parameter → Bool
 differs name [] = true
-differs name (p ∷ ps) = not (same name p.name) && differs name ps
+differs name (p ∷ ps) = not (bytes_eq name p.name) && differs name ps
 
 abbrev pub all_differ : List Parameter → List Parameter → Bool
 all_differ before [] = true
@@ -111,7 +111,7 @@ guess fields bytes parameters = record {
 -- the fields that each transaction has are there
 abbrev pub has_all : List Item → Bool
 has_all fields =
-    is_some (lookup names.transaction_type fields) && (is_some (lookup names.account fields) && (is_some (lookup names.sequence fields) && (is_native (amount_in (lookup names.fee fields)) && is_some (lookup names.signing_pub_key fields))))
+    is_some (number16 names.transaction_type fields) && (is_some (lookup names.account fields) && (is_some (number32 names.sequence fields) && (is_native (amount_in (lookup names.fee fields)) && is_some (lookup names.signing_pub_key fields))))
 
 -- a type that is taken, amounts that are some, and the number of a transaction that wasn't emitted
 abbrev pub is_right : List Item → Transaction → Bool

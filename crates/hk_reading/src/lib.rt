@@ -3,6 +3,8 @@
 
 mod laws;
 mod reading;
+#[cfg(test)]
+mod tests;
 
 pub use laws::reads_one_way;
 pub use reading::{Reading, read};
