@@ -82,11 +82,16 @@ fn bytes_read_as_they_should(rt: HostRuntime) -> Result<(), Fail> {
     Ok(())
 }
 
+// What so many zeros read as. A number that the check doesn't know makes no long list of them in its proof.
+fn zeros(alloc: Global, count: usize) -> Result<Reading, AllocError> {
+    let bytes = vec![in alloc; 0u8; count]?;
+    read(alloc, &bytes)
+}
+
 #[test]
 fn too_many_bytes_are_too_long(rt: HostRuntime) -> Result<(), Fail> {
     let alloc = rt.alloc();
-    let bytes = vec![in alloc; 0u8; 1_000_001]?;
-    assert!(rt; matches!(read(alloc, &bytes)?, Reading::TooLong));
-    assert!(rt; matches!(read(alloc, &bytes[..1_000_000])?, Reading::Unparsed));
+    assert!(rt; matches!(zeros(alloc, 1_000_001)?, Reading::TooLong));
+    assert!(rt; matches!(zeros(alloc, 1_000_000)?, Reading::Unparsed));
     Ok(())
 }
