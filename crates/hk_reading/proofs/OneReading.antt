@@ -66,12 +66,15 @@ module _ (bytes : List ℕ) (fits : length bytes ≤ longest) where
   of_fields_again fields object = ap (of_fields bytes) ((fields_found bytes).complete fields object)
 
 reading_short : (bytes : List ℕ) → length bytes ≤ longest → reading bytes ≡ of_fields bytes (fields_of bytes)
+unfolding reading
 reading_short bytes fits = ap (λ b. if b then readings.TooLong else of_fields bytes (fields_of bytes)) (let no_more : nat_lt longest (length bytes) ≡ false = grind (arith, nat_tests) in no_more)
 
 reading_long : (bytes : List ℕ) → longest < length bytes → reading bytes ≡ readings.TooLong
+unfolding reading
 reading_long bytes long = ap (λ b. if b then readings.TooLong else of_fields bytes (fields_of bytes)) (let more : nat_lt longest (length bytes) ≡ true = grind (arith, nat_tests) in more)
 
 pub reads_so : ReadsSo
+unfolding reading
 reads_so bytes =
     pick (Reads bytes) (nat_lt longest (length bytes)) _ _ (λ e. grind (arith, nat_tests)) (λ e. fields_read bytes (grind (arith, nat_tests)) (fields_of bytes) refl)
 

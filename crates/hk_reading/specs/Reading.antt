@@ -16,5 +16,5 @@ abbrev pub of_fields : List ℕ → Option (List Item) → Reading
 of_fields bytes None = readings.Unparsed
 of_fields bytes (Some fields) = of_transaction (transaction_of fields bytes)
 
-abbrev pub reading : List ℕ → Reading
+unfoldable pub reading : List ℕ → Reading
 reading bytes = if nat_lt longest (length bytes) then readings.TooLong else of_fields bytes (fields_of bytes)
