@@ -1,0 +1,7 @@
+ghost use Rattle.hk_reading.specs.Laws.{ReadsSo, ReadsOnlySo};
+
+/// The function and the relation are one: bytes read as the function says, and as nothing else.
+pub fn reads_one_way()
+    ensures so { ReadsSo }
+    ensures only_so { ReadsOnlySo }
+{}

@@ -1,0 +1,10 @@
+//! What the bytes of a transaction read as, as a function of the bytes.
+#![tactic(auto)]
+
+mod laws;
+mod reading;
+#[cfg(test)]
+mod tests;
+
+pub use laws::reads_one_way;
+pub use reading::{Reading, read};
