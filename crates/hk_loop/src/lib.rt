@@ -5,6 +5,8 @@ mod command;
 mod going;
 mod pieces;
 mod taking;
+#[cfg(test)]
+mod tests;
 mod through;
 mod writing;
 
