@@ -1,13 +1,12 @@
 -- What a piece gives, part by part.
-use Rattle.std.proofs.Common.{◌≡◌, ◌⊎◌, ℕ, ◌+◌, ◌<◌, ◌≤◌, nat_le, false, if◌then◌else◌, List, [], ◌∷◌, ◌++◌, length, take, drop, Option, Some, None, refl, sym, ap, subst, ◌∙◌, inl, inr, arith, append_assoc}
+use Rattle.std.proofs.Common.{◌≡◌, ℕ, ◌+◌, ◌<◌, ◌≤◌, nat_le, false, if◌then◌else◌, List, [], ◌++◌, length, take, drop, Option, None, sym, ap, subst, ◌∙◌, inl, inr, arith, append_assoc}
 use Rattle.std.proofs.lemmas.Bool.Decides.{nat_tests}
 use Rattle.std.proofs.lemmas.List.{take-append-drop}
-use Rattle.hk_lines.specs.Cut.{Cut, behind, whole, cut, begun, joined, trim, is_skipped}
-use Rattle.hk_lines.specs.Cutting.{IsUnfinished, IsLine, IsEndless, Shows, ShowsReady}
+use Rattle.hk_lines.specs.Cut.{Cut, behind, cut, begun, joined, trim, is_skipped}
+use Rattle.hk_lines.specs.Cutting.{Shows, ShowsReady}
 use Rattle.hk_lines.specs.Given.{Close, Given, after, bad, Turn, given_line, given_from, after_turn}
 use Rattle.hk_lines.specs.Numbers.{longest_line, endless_line}
 use Rattle.hk_lines.specs.declared.cutting.CutLine.{CutLine}
-use Rattle.hk_lines.specs.declared.cutting.CutLine.TheVariants.{TooLong}
 use Rattle.hk_lines.specs.declared.rule.Rule.TheVariants.{LineTooLong}
 use Rattle.hk_lines.specs.declared.status.Status.{Status}
 use Rattle.hk_lines.proofs.CutLemmas.{cut_joined, begun_joined, begun_nothing, joined_joined, trim_length}

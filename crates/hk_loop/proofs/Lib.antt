@@ -1,2 +1,4 @@
 pub mod Feeding
 pub mod Moves
+pub mod Invariant
+pub mod Exits

@@ -1,5 +1,5 @@
 -- Statuses that are answers to the input, and no accidents.
-use Rattle.std.specs.Prelude.{◌≡◌, ◌++◌, ℕ, List, Option, Some}
+use Rattle.std.specs.Prelude.{◌≡◌, ◌≢◌, ◌++◌, ℕ, List, Option, Some}
 use Rattle.std.specs.Io.KnownBytes.{Appends}
 use Rattle.hk_lines.specs.Given.{Given}
 use Rattle.hk_lines.specs.declared.status.Status.{Status}
@@ -14,6 +14,10 @@ IsAnswer TooLong = Unit {0}
 IsAnswer ReadFault = ⊥
 IsAnswer WriteFault = ⊥
 IsAnswer NoMemory = ⊥
+
+-- statuses with which a line ends a command: that the input is too long isn't for a line to say
+abbrev pub IsEnd : Status → Type 0
+IsEnd status = IsAnswer status × (status ≢ TooLong)
 
 -- the front of a text was written
 pub record WroteFront (text : List ℕ) (before now : Option (List ℕ)) : Type 0 where

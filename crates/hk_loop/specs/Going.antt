@@ -1,10 +1,11 @@
 -- What one read does to a command, its source and its sink (this project's own).
-use Rattle.std.specs.Prelude.{◌≡◌, ◌≤◌, ◌<◌, ◌+◌, ◌⊎◌, ℕ, List, [], length, Option}
-use Rattle.std.specs.Io.KnownBytes.{Consumes, IsAtEnd}
+use Rattle.std.specs.Prelude.{◌≡◌, ◌≢◌, ◌≤◌, ◌<◌, ◌+◌, ◌⊎◌, ℕ, List, [], length, Option}
+use Rattle.std.specs.Io.KnownBytes.{Appends, Consumes, IsAtEnd}
 use Rattle.hk_lines.specs.Cut.{Cut, behind, cut, begun, joined}
 use Rattle.hk_lines.specs.Cutting.{IsUnfinished}
 use Rattle.hk_lines.specs.Given.{Close, ended, Turn, given_from}
 use Rattle.hk_lines.specs.declared.status.Status.{Status}
+use Rattle.hk_lines.specs.declared.status.Status.TheVariants.{ReadFault, TooLong}
 use Rattle.hk_loop.specs.Answers.{IsAnswer, WroteFront, Gave}
 use Rattle.hk_loop.specs.Turned.{Went}
 
@@ -26,6 +27,7 @@ pub record EndsAt {S : Type 0} (turn : S → List ℕ → Turn S) (status : Stat
   pub at_end : IsAtEnd left'
   pub answered : IsAnswer status → Gave (given_from turn state number (behind held) ended) status before now
   pub stopped : (IsAnswer status → ⊥) → WroteFront (given_from turn state number (behind held) ended).text before now
+  pub no_read_fault : status ≢ ReadFault
 
 -- a piece ended the command: all that is given was written, whatever comes behind, or its front
 pub record BreaksAt {S : Type 0} (turn : S → List ℕ → Turn S) (status : Status) (state : S) (number : ℕ) (held taken : List ℕ) (before now : Option (List ℕ)) : Type 0 where
@@ -33,6 +35,13 @@ pub record BreaksAt {S : Type 0} (turn : S → List ℕ → Turn S) (status : St
       Gave (given_from turn state number (begun held (joined (cut taken) more)) close) status before now
   pub stopped : (IsAnswer status → ⊥) → (more : Cut) (close : Close) →
       WroteFront (given_from turn state number (begun held (joined (cut taken) more)) close).text before now
+  pub no_read_fault : status ≢ ReadFault
+
+-- the read failed: nothing was taken, and nothing written
+pub record FailsAt (status : Status) (taken : List ℕ) (before now : Option (List ℕ)) : Type 0 where
+  pub failed : status ≡ ReadFault
+  pub nothing : taken ≡ []
+  pub still : Appends before now []
 
 -- bytes were taken, and there it stopped
 pub record StopsAt {S : Type 0} (turn : S → List ℕ → Turn S) (status : Status) (room : ℕ) (state : S) (number : ℕ) (held : List ℕ) (left before left' now : Option (List ℕ)) : Type 0 where
@@ -40,4 +49,7 @@ pub record StopsAt {S : Type 0} (turn : S → List ℕ → Turn S) (status : Sta
   pub consumed : Consumes left left' taken
   pub most : length taken ≤ room
   pub few : length taken ≤ 65536
-  pub why : EndsAt turn status state number held taken left' before now ⊎ BreaksAt turn status state number held taken before now
+  pub not_full : status ≢ TooLong
+  pub why :
+      EndsAt turn status state number held taken left' before now
+      ⊎ (BreaksAt turn status state number held taken before now ⊎ FailsAt status taken before now)

@@ -4,14 +4,14 @@ use Rattle.std.specs.Io.KnownBytes.{Appends}
 use Rattle.hk_lines.specs.Cut.{Cut, cut, begun, joined}
 use Rattle.hk_lines.specs.Given.{Close, Given, after, Turn, goes, ends, wrong, given_from}
 use Rattle.hk_lines.specs.declared.status.Status.{Status}
-use Rattle.hk_loop.specs.Answers.{IsAnswer}
+use Rattle.hk_loop.specs.Answers.{IsEnd}
 use Rattle.hk_loop.specs.declared.command.Turned.{Turned}
 use Rattle.hk_loop.specs.declared.command.Turned.TheVariants.{Goes, Ends, Wrong}
 
 -- a turn was done: the state, and the text behind what was there before
 abbrev pub Did : {S : Type 0} → Turn S → Turned → S → List ℕ → List ℕ → Type 0
 Did (goes state text) Goes now before later = (now ≡ state) × (later ≡ before ++ text)
-Did (ends text status) (Ends answer) now before later = (answer ≡ status) × (later ≡ before ++ text) × IsAnswer answer
+Did (ends text status) (Ends answer) now before later = (answer ≡ status) × (later ≡ before ++ text) × IsEnd answer
 Did (wrong rule) (Wrong answer) now before later = (answer ≡ rule) × (later ≡ before)
 Did turn turned now before later = ⊥
 
@@ -20,10 +20,10 @@ abbrev pub led : Option Status → List ℕ → Given → Given
 led None text more = after text more
 led (Some status) text more = record { text = text; status = Some status }
 
--- where it stops, it stops with an answer
+-- where it stops, a line ended the command
 abbrev pub StopsWell : Option Status → Type 0
 StopsWell None = Unit {0}
-StopsWell (Some status) = IsAnswer status
+StopsWell (Some status) = IsEnd status
 
 -- a piece was taken and its text written: what is given from before it is that text, and what is given from there on, whatever comes behind
 pub record Went {S : Type 0} (turn : S → List ℕ → Turn S) (state : S) (number : ℕ) (held piece : List ℕ) (before : Option (List ℕ)) (next : S) (number' : ℕ) (held' : List ℕ) (now : Option (List ℕ)) : Type 0 where

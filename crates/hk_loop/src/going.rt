@@ -16,7 +16,7 @@ const PIECE: usize = 4096;
 
 /// Reads once, takes the bytes and writes what their lines print; the answer is how many bytes there were, at least one. An
 /// error is the status where the command or its input ends, or what stopped it.
-pub fn take_next<C: Command, S: Source, K: Sink>(
+pub(crate) fn take_next<C: Command, S: Source, K: Sink>(
     alloc: Global,
     room: usize,
     command: &mut C,

@@ -5,9 +5,11 @@ mod command;
 mod going;
 mod pieces;
 mod taking;
+#[cfg(test)]
+mod tests;
+mod through;
 mod writing;
 
 pub use command::{Command, Turned};
-pub use going::take_next;
-pub use pieces::{take_end, write_piece};
+pub use through::go_through;
 pub use writing::{write_all, write_answer};

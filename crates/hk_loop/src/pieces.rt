@@ -22,7 +22,7 @@ pub(crate) struct Part {
 }
 
 /// Takes a piece and writes what its lines print. An error is the status where the command ends or what stopped it.
-pub fn write_piece<C: Command, K: Sink>(
+pub(crate) fn write_piece<C: Command, K: Sink>(
     alloc: Global,
     command: &mut C,
     cutter: &mut Cutter,
@@ -48,6 +48,7 @@ pub fn write_piece<C: Command, K: Sink>(
     ensures stopped { IfErr result (λ status. ¬ IsAnswer status → (more : Cut) (close : Close) →
         WroteFront (given_from C.turn command.old number.old (begun cutter.old (joined (cut piece.now) more)) close).text
         (K.written sink.old) (K.written sink.new)) }
+    ensures not_full { IfErr result (λ status. status ≢ Status.TooLong) }
     ensures no_read_fault { IfErr result (λ status. status ≢ Status.ReadFault) }
     ensures write_fault { IfErr result (λ status. status ≡ Status.WriteFault → Rose (K.faults sink.old) (K.faults sink.new)) }
     ensures later { K.faults sink.old ≤ K.faults sink.new }
@@ -65,7 +66,7 @@ pub fn write_piece<C: Command, K: Sink>(
 }
 
 /// Takes what is left at the end of the input and writes what it prints. The answer is the status of all, or what stopped it.
-pub fn take_end<C: Command, K: Sink>(
+pub(crate) fn take_end<C: Command, K: Sink>(
     alloc: Global,
     command: &mut C,
     cutter: &Cutter,
@@ -78,6 +79,7 @@ pub fn take_end<C: Command, K: Sink>(
         Gave (given_from C.turn command.old number (behind cutter.now) ended) result (K.written sink.old) (K.written sink.new) }
     ensures stopped { ¬ IsAnswer result →
         WroteFront (given_from C.turn command.old number (behind cutter.now) ended).text (K.written sink.old) (K.written sink.new) }
+    ensures not_full { result ≢ Status.TooLong }
     ensures no_read_fault { result ≢ Status.ReadFault }
     ensures write_fault { result ≡ Status.WriteFault → Rose (K.faults sink.old) (K.faults sink.new) }
     ensures later { K.faults sink.old ≤ K.faults sink.new }

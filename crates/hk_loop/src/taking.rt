@@ -4,7 +4,7 @@ ghost use Rattle.hk_lines.specs.Cut.{behind, trim, is_skipped};
 ghost use Rattle.hk_lines.specs.Cutting.{IsUnfinished, Shows};
 ghost use Rattle.hk_lines.specs.Given.{Given, after, bad_text, too_long, ended, given_line, given_from};
 ghost use Rattle.hk_loop.specs.Turned.{led, StopsWell};
-ghost use Rattle.hk_loop.specs.Answers.{IsAnswer};
+ghost use Rattle.hk_loop.specs.Answers.{IsEnd};
 
 use crate::{Command, Turned};
 use hk_base::NoMemory;
@@ -57,7 +57,7 @@ pub(crate) fn take_rest<C: Command>(
     requires fits { number < 2 ^ 63 }
     ensures given { IfOk result (λ status. after out.old.items (given_from C.turn command.old number (behind cutter.now) ended)
         ≡ led (Some status) out.new.items too_long) }
-    ensures well { IfOk result (λ status. IsAnswer status) }
+    ensures well { IfOk result (λ status. IsEnd status) }
 {
     match cutter.rest() {
         None => {

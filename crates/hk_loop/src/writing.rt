@@ -28,6 +28,7 @@ pub fn write_answer<K: Sink>(sink: &mut K, text: &[u8], status: Status) -> Statu
     requires answer { IsAnswer status }
     ensures whole { IsAnswer result → (result ≡ status) × Appends (K.written sink.old) (K.written sink.new) text.now }
     ensures front { ¬ IsAnswer result → WroteFront text.now (K.written sink.old) (K.written sink.new) }
+    ensures full { result ≡ Status.TooLong → status ≡ Status.TooLong }
     ensures no_read_fault { result ≢ Status.ReadFault }
     ensures write_fault { result ≡ Status.WriteFault → Rose (K.faults sink.old) (K.faults sink.new) }
     ensures later { K.faults sink.old ≤ K.faults sink.new }

@@ -1,4 +1,4 @@
-use Rattle.std.proofs.Common.{[], take, refl, inl, subst, arith}
+use Rattle.std.proofs.Common.{[], take, refl, inl, inr, subst, arith, rules}
 use Rattle.std.specs.Io.KnownBytes.{Consumes}
 use Rattle.hk_loop.proofs.going.take_next.Goals as goal
 
@@ -10,10 +10,27 @@ returns-then-count-eq0-clause-stops g c = record {
       c.if-count-eq0.true c.in-Ok.ensures.moved;
   most = omega arith;
   few = omega arith;
+  not_full = c.take_end.ensures.not_full;
   why = inl (record {
     nothing = refl;
     at_end = c.in-Ok.ensures.end c.if-count-eq0.true;
     answered = c.take_end.ensures.answered;
     stopped = c.take_end.ensures.stopped;
+    no_read_fault = c.take_end.ensures.no_read_fault;
   });
+}
+
+-- the piece ended the command, or writing stopped it
+pub returns-in-Err-write_piece-clause-stops : goal.returns-in-Err-write_piece-clause-stops
+returns-in-Err-write_piece-clause-stops g c = record {
+  taken = take c.in-Ok.count c.read_piece.new.buffer;
+  consumed = c.in-Ok.ensures.moved;
+  most = search rules;
+  few = search rules;
+  not_full = c.in-Err-write_piece.ensures.not_full;
+  why = inr (inl (record {
+    answered = search rules;
+    stopped = search rules;
+    no_read_fault = c.in-Err-write_piece.ensures.no_read_fault;
+  }));
 }

@@ -1,8 +1,8 @@
-use Rattle.std.proofs.Common.{◌≡◌, ◌+◌, List, [], ◌++◌, ℕ, drop, sym, ap, subst, ◌∙◌}
-use Rattle.hk_lines.specs.Cut.{Cut, cut, begun, joined}
-use Rattle.hk_lines.specs.Given.{Close, given_from}
+use Rattle.std.proofs.Common.{◌+◌, drop, sym, ap, ◌∙◌}
+use Rattle.hk_lines.specs.Cut.{cut, begun, joined}
+use Rattle.hk_lines.specs.Given.{given_from}
 use Rattle.hk_loop.specs.Turned.{led}
-use Rattle.hk_loop.proofs.Feeding.{part_unready, part_ready, Takes}
+use Rattle.hk_loop.proofs.Feeding.{part_unready, part_ready}
 use Rattle.hk_loop.proofs.pieces.take_part.Goals as goal
 
 -- no line is whole yet

@@ -1,6 +1,5 @@
-use Rattle.std.proofs.Common.{◌≡◌, List, ℕ, sym, ◌∙◌}
-use Rattle.hk_lines.specs.Cut.{Cut, behind}
-use Rattle.hk_lines.specs.Given.{Close, ended, given_from}
+use Rattle.std.proofs.Common.{sym, ◌∙◌}
+use Rattle.hk_lines.specs.Given.{given_from}
 use Rattle.hk_lines.specs.Cut.{cut, begun, joined}
 use Rattle.hk_loop.proofs.Feeding.{front_of_more}
 use Rattle.hk_loop.proofs.pieces.write_piece.Goals as goal

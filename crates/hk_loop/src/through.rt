@@ -1,0 +1,51 @@
+//! A command goes through its whole input.
+ghost use Rattle.std.specs.Prelude.{◌≡◌, ◌≤◌, ◌<◌, ◌^◌, List, ℕ};
+ghost use Rattle.hk_base.specs.Outside.{Rose};
+ghost use Rattle.hk_lines.specs.Given.{gives};
+ghost use Rattle.hk_loop.specs.Answers.{IsAnswer, Gave};
+ghost use Rattle.hk_loop.specs.Through.{IsExact, Leaves};
+
+use crate::Command;
+use crate::going::take_next;
+use crate::writing::write_answer;
+use hk_base::{Sink, Source};
+use hk_lines::{Cutter, Status};
+use std::alloc::Global;
+
+/// Takes the source's bytes, up to the limit, until the command ends, and writes what their lines print before it reads on.
+pub fn go_through<C: Command, S: Source, K: Sink>(
+    alloc: Global,
+    limit: usize,
+    command: &mut C,
+    source: &mut S,
+    sink: &mut K,
+) -> Status
+    requires limit { limit < 2 ^ 60 }
+
+    // An answer and what was written are those that are given for all bytes of the source.
+    ensures answered { IsAnswer result → (bytes : List ℕ) → S.left source.old ≡ Some bytes →
+        Gave (gives C.turn limit command.old bytes) result (K.written sink.old) (K.written sink.new) }
+
+    // Where no call failed, it answers that, or there was want of memory.
+    ensures exact { ¬ Rose (S.faults source.old) (S.faults source.new) → ¬ Rose (K.faults sink.old) (K.faults sink.new) →
+        (bytes : List ℕ) → S.left source.old ≡ Some bytes → IsExact C.turn limit command.old bytes result }
+
+    // Whatever it answers, no more was written than is due for the bytes taken, and no less than was due one piece before.
+    ensures leaves { (bytes : List ℕ) → S.left source.old ≡ Some bytes →
+        Leaves C.turn limit command.old bytes result (S.left source.new) (K.written sink.old) (K.written sink.new) }
+    ensures read_fault { result ≡ Status.ReadFault → Rose (S.faults source.old) (S.faults source.new) }
+    ensures write_fault { result ≡ Status.WriteFault → Rose (K.faults sink.old) (K.faults sink.new) }
+    ensures source_count { S.faults source.old ≤ S.faults source.new }
+    ensures sink_count { K.faults sink.old ≤ K.faults sink.new }
+{
+    let mut cutter = Cutter::new(alloc);
+    let mut number = 1;
+    let mut room = limit;
+    while room > 0 {
+        match take_next(alloc, room, command, &mut cutter, &mut number, source, sink) {
+            Ok(count) => room -= count,
+            Err(status) => return status,
+        }
+    }
+    write_answer(sink, b"too long\n", Status::TooLong)
+}
