@@ -11,8 +11,9 @@ use Rattle.hk_lines.specs.declared.rule.Rule.{Rule}
 use Rattle.hk_lines.specs.declared.verdict.Verdict.{Verdict}
 use Rattle.hk_lines.specs.declared.result_name.ResultName.{ResultName}
 use Rattle.xo_object.specs.declared.transaction.Transaction.{Transaction}
-use Rattle.hk_ledger.specs.declared.reading.Reading.{Reading}
-use Rattle.hk_ledger.specs.declared.reading.Reading.TheVariants as reading
+use Rattle.hk_reading.specs.declared.reading.Reading.{Reading}
+use Rattle.hk_reading.specs.declared.reading.Reading.TheVariants as reading
+use Rattle.hk_reading.specs.Reading.{reading as reading_of}
 use Rattle.hk_ledger.specs.Balances.{balances, balances-empty}
 use Rattle.hk_ledger.specs.Conserved.{taken, settled_sum, sum_new}
 use Rattle.hk_ledger.specs.Holdings.{holding_at}
@@ -63,24 +64,24 @@ applied_sum rules ledger verdict reading.Unparsed law = refl
 applied_sum rules ledger verdict reading.Malformed law = refl
 applied_sum rules ledger verdict (reading.Transaction t) law = goes_on_sum rules ledger verdict t (first_row (refusal_rows ledger verdict t)) law refl
 
-module _ (rules : Rules) (law : KeepsSum rules) (read : List ℕ → Reading) where
-  adds_up : (lines : List InputLine) (s : State) (shown : List OutputLine) → replayed rules read s lines ≡ Some shown → AddsUp (opening_total s.ledger + opened_with lines) shown
+module _ (rules : Rules) (law : KeepsSum rules) where
+  adds_up : (lines : List InputLine) (s : State) (shown : List OutputLine) → replayed rules s lines ≡ Some shown → AddsUp (opening_total s.ledger + opened_with lines) shown
   adds_up [] s shown h = cc
   adds_up (Account id balance sequence ∷ lines) s shown h =
-      let go = went (first_row (account_rules s.ledger id balance)) _ [] shown (λ next. replayed rules read next lines) h in
+      let go = went (first_row (account_rules s.ledger id balance)) _ [] shown (λ next. replayed rules next lines) h in
       let more = adds_up lines _ go.rest.from go.rest.at in
       let absent = none_of (holding_at s.ledger.entries id) (none_applies (account_rules s.ledger id balance) go.right).1.0 in
       let sum = sum_new s.ledger.entries id balance sequence absent in
       let total : _ ≡ opening_total s.ledger + (balance + opened_with lines) = omega (arith, sum) in
       behind [] go.rest.from shown _ go.rest.to (subst (λ n. AddsUp n go.rest.from) total more)
   adds_up (Ledger seq time last_hash ∷ lines) s shown h =
-      let go = went _ _ _ shown (λ next. replayed rules read next lines) h in
+      let go = went _ _ _ shown (λ next. replayed rules next lines) h in
       behind (printed.Ledger seq ∷ []) go.rest.from shown _ go.rest.to (adds_up lines _ go.rest.from go.rest.at)
   adds_up (Tx verdict blob ∷ lines) s shown h =
-      let go = went _ _ _ shown (λ next. replayed rules read next lines) h in
-      let done = applied rules s.ledger verdict (read blob) in
+      let go = went _ _ _ shown (λ next. replayed rules next lines) h in
+      let done = applied rules s.ledger verdict (reading_of blob) in
       behind (printed.Tx (s.count + 1) done.result done.fee ∷ []) go.rest.from shown _ go.rest.to
-      (subst (λ n. AddsUp (n + opened_with lines) go.rest.from) (applied_sum rules s.ledger verdict (read blob) law) (adds_up lines _ go.rest.from go.rest.at))
+      (subst (λ n. AddsUp (n + opened_with lines) go.rest.from) (applied_sum rules s.ledger verdict (reading_of blob) law) (adds_up lines _ go.rest.from go.rest.at))
   adds_up (Hook code ∷ lines) s shown h = cc
   adds_up (End ∷ lines) s shown h = record {
     front = account_lines (entries s.ledger.entries);
@@ -90,7 +91,7 @@ module _ (rules : Rules) (law : KeepsSum rules) (read : List ℕ → Reading) wh
     sum = omega arith;
   }
 
-  pub conserved : (lines : List InputLine) (shown : List OutputLine) → replayed rules read start lines ≡ Some shown → AddsUp (opened_with lines) shown
+  pub conserved : (lines : List InputLine) (shown : List OutputLine) → replayed rules start lines ≡ Some shown → AddsUp (opened_with lines) shown
   conserved lines shown h =
       let none = balances-empty in
       let total : opening_total start.ledger + opened_with lines ≡ opened_with lines = omega (arith, none) in

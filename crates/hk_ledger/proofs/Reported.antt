@@ -3,7 +3,7 @@ use Rattle.std.proofs.Common.{◌≡◌, ℕ, ◌+◌, ◌≤◌, ◌∙◌, ap,
 use Rattle.xo_object.specs.declared.transaction.Transaction.{Transaction}
 use Rattle.hk_lines.specs.declared.verdict.Verdict.{Verdict}
 use Rattle.hk_lines.specs.declared.result_name.ResultName.{ResultName}
-use Rattle.hk_ledger.specs.declared.reading.Reading.TheVariants as reading
+use Rattle.hk_reading.specs.declared.reading.Reading.TheVariants as reading
 use Rattle.hk_ledger.specs.declared.report.Report.{Report}
 use Rattle.hk_ledger.specs.Balances.{balances}
 use Rattle.hk_ledger.specs.Conserved.{Taken, taken, settled_sum}

@@ -1,5 +1,5 @@
 -- The ledger machine, line by line. This project's own.
-use Rattle.std.specs.Prelude.{◌≡◌, ℕ, ◌+◌, Bool, true, false, not, nat_lt, nat_le, List, [], ◌∷◌, ◌++◌, Option, Some, None, is_some, refl}
+use Rattle.std.specs.Prelude.{◌≡◌, ℕ, ◌+◌, ◌≤◌, Bool, true, false, not, nat_lt, nat_le, List, [], ◌∷◌, ◌++◌, Option, Some, None, is_some, refl}
 use Rattle.std.specs.Coded.{Coded, code_by, coded×, coded_ℕ}
 use Rattle.std.specs.FinMap.{FinMap, entries}
 use Rattle.hk_base.specs.declared.ids.AccountId.{AccountId}
@@ -11,7 +11,8 @@ use Rattle.hk_lines.specs.declared.rule.Rule.{Rule}
 use Rattle.hk_lines.specs.declared.rule.Rule.TheVariants.{BadWord, BadOrder, RepeatedAccount, Total}
 use Rattle.hk_lines.specs.declared.verdict.Verdict.{Verdict}
 use Rattle.hk_base.specs.declared.ids.Hash256.{Hash256}
-use Rattle.hk_ledger.specs.declared.reading.Reading.{Reading}
+use Rattle.hk_reading.specs.declared.reading.Reading.{Reading}
+use Rattle.hk_reading.specs.Reading.{reading}
 use Rattle.hk_ledger.specs.declared.key.Key.{Key}
 use Rattle.hk_ledger.specs.declared.key.Key.TheVariants as key
 use Rattle.hk_ledger.specs.declared.entry.Entry.{Entry}
@@ -98,13 +99,18 @@ ledger_step s seq time last_hash =
 abbrev pub tx_step : Rules → State → Verdict → Reading → Step
 tx_step rules s verdict reading = unless_broken (first_row (tx_rules s.ledger)) (counted s.count (applied rules s.ledger verdict reading))
 
--- one line, by the rules for transactions and by what bytes read as; a `hook` line is no line of a replay
-abbrev pub step : Rules → (List ℕ → Reading) → State → InputLine → Step
-step rules reading s (Account id balance sequence) = account_step s id balance sequence
-step rules reading s (Ledger seq time last_hash) = ledger_step s seq time last_hash
-step rules reading s (Tx verdict blob) = tx_step rules s verdict (reading blob)
-step rules reading s (Hook code) = breaks BadWord
-step rules reading s End = ends (final_lines s.ledger)
+-- one line, by the rules for transactions; a `hook` line is no line of a replay
+abbrev pub step : Rules → State → InputLine → Step
+step rules s (Account id balance sequence) = account_step s id balance sequence
+step rules s (Ledger seq time last_hash) = ledger_step s seq time last_hash
+step rules s (Tx verdict blob) = tx_step rules s verdict (reading blob)
+step rules s (Hook code) = breaks BadWord
+step rules s End = ends (final_lines s.ledger)
+
+-- a line that opens an account has no more drops than there can be
+abbrev pub IsInRange : InputLine → Type 0
+IsInRange (Account id balance sequence) = balance ≤ most_drops
+IsInRange other = Unit {0}
 
 -- an answer is that step
 abbrev pub Steps : Step → State → Stepped → Type 0

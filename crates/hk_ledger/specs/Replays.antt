@@ -5,7 +5,6 @@ use Rattle.hk_lines.specs.declared.input_line.InputLine.{InputLine}
 use Rattle.hk_lines.specs.declared.input_line.InputLine.TheVariants.{Account, End}
 use Rattle.hk_lines.specs.declared.output_line.OutputLine.{OutputLine}
 use Rattle.hk_lines.specs.declared.output_line.OutputLine.TheVariants.{FinalTotal, Done}
-use Rattle.hk_ledger.specs.declared.reading.Reading.{Reading}
 use Rattle.hk_ledger.specs.Rules.{Rules}
 use Rattle.hk_ledger.specs.Machine.{State, start, Step, goes, ends, breaks, step}
 
@@ -15,9 +14,9 @@ continued (ends shown) later = Some shown
 continued (breaks rule) later = None
 
 -- all that is printed, where every line is right up to the last one
-abbrev pub replayed : Rules → (List ℕ → Reading) → State → List InputLine → Option (List OutputLine)
-replayed rules reading s [] = None
-replayed rules reading s (line ∷ lines) = continued (step rules reading s line) (λ next. replayed rules reading next lines)
+abbrev pub replayed : Rules → State → List InputLine → Option (List OutputLine)
+replayed rules s [] = None
+replayed rules s (line ∷ lines) = continued (step rules s line) (λ next. replayed rules next lines)
 
 -- the balances of the lines that open accounts
 abbrev pub opened_with : List InputLine → ℕ
@@ -36,5 +35,5 @@ pub record AddsUp (total : ℕ) (shown : List OutputLine) : Type 0 where
 
 -- no drop comes or goes in a replay
 abbrev pub Conserves : Rules → Type 0
-Conserves rules = (reading : List ℕ → Reading) (lines : List InputLine) (shown : List OutputLine) →
-    replayed rules reading start lines ≡ Some shown → AddsUp (opened_with lines) shown
+Conserves rules = (lines : List InputLine) (shown : List OutputLine) →
+    replayed rules start lines ≡ Some shown → AddsUp (opened_with lines) shown

@@ -6,8 +6,8 @@ use Rattle.hk_lines.specs.declared.verdict.Verdict.{Verdict}
 use Rattle.hk_lines.specs.declared.verdict.Verdict.TheVariants.{Good, Bad}
 use Rattle.hk_lines.specs.declared.result_name.ResultName.{ResultName}
 use Rattle.hk_lines.specs.declared.result_name.ResultName.TheVariants.{TooLong, Unparsed, Malformed, BadSignature, NoAccount, PastSequence, FutureSequence, Early, Expired, FeeTooSmall, FeeUnfunded, Success}
-use Rattle.hk_ledger.specs.declared.reading.Reading.{Reading}
-use Rattle.hk_ledger.specs.declared.reading.Reading.TheVariants as reading
+use Rattle.hk_reading.specs.declared.reading.Reading.{Reading}
+use Rattle.hk_reading.specs.declared.reading.Reading.TheVariants as reading
 use Rattle.hk_ledger.specs.declared.entry.Entry.{Entry}
 use Rattle.hk_ledger.specs.declared.ledger.Header.{Header}
 use Rattle.hk_ledger.specs.declared.holding.Holding.{Holding}
@@ -85,11 +85,6 @@ applied rules ledger verdict reading.TooLong = refused ledger TooLong
 applied rules ledger verdict reading.Unparsed = refused ledger Unparsed
 applied rules ledger verdict reading.Malformed = refused ledger Malformed
 applied rules ledger verdict (reading.Transaction t) = goes_on rules ledger t (first_row (refusal_rows ledger verdict t))
-
--- the next sequence fits
-abbrev pub IsCountable : Reading → Type 0
-IsCountable (reading.Transaction t) = t.sequence < 4294967295
-IsCountable other = Unit {0}
 
 -- the result and the ledger of an event
 pub record Ends (done : Applied) (name : ResultName) (now : LedgerValue) : Type 0 where

@@ -1,12 +1,12 @@
 //! A replay of a ledger, line by line.
 ghost use Rattle.std.specs.Prelude.{◌≡◌, ◌+◌, ◌<◌, ◌≤◌, ◌^◌, IfOk, OnErr, OnOk};
-ghost use Rattle.hk_ledger.specs.Machine.{start, Steps, account_step, ledger_step, tx_step, final_lines, ends};
-ghost use Rattle.hk_ledger.specs.Transactions.{IsCountable};
+ghost use Rattle.hk_ledger.specs.Machine.{start, Steps, account_step, ledger_step, tx_step, step, final_lines, ends, IsInRange};
+ghost use Rattle.hk_reading.specs.Reading.{reading};
 ghost use Rattle.hk_ledger.specs.World.{most_drops};
 
-use crate::{OpenFault, Reading, Transactor, World, apply_reading, open_account, open_ledger};
+use crate::{OpenFault, Transactor, World, apply, open_account, open_ledger};
 use hk_base::{AccountId, Hash256, Items, NoMemory};
-use hk_lines::{OutputLine, Rule, Verdict};
+use hk_lines::{InputLine, OutputLine, Rule, Verdict};
 use std::alloc::{AllocError, Global};
 use std::marker::Model;
 
@@ -49,8 +49,8 @@ impl Replay {
         }
     }
 
-    /// A line that opens an account.
-    pub fn account(
+    // A line that opens an account.
+    fn account(
         &mut self,
         alloc: Global,
         id: &AccountId,
@@ -71,8 +71,8 @@ impl Replay {
         }
     }
 
-    /// A line that opens a ledger.
-    pub fn ledger(
+    // A line that opens a ledger.
+    fn ledger(
         &mut self,
         alloc: Global,
         seq: u32,
@@ -90,22 +90,24 @@ impl Replay {
         Ok(Stepped::Goes(lines))
     }
 
-    /// A line with a transaction, by the verdict on its signature and by what its bytes read as.
-    pub fn transaction<T: Transactor>(
+    // A line with a transaction, by the verdict on its signature and by its bytes. No input has so many of them that their number
+    // isn't a number of 64 bits.
+    fn transaction<T: Transactor>(
         &mut self,
         alloc: Global,
         rules: &T,
         verdict: Verdict,
-        reading: &Reading,
+        blob: &[u8],
     ) -> Result<Stepped, NoMemory>
-        requires sequence { IsCountable reading.now }
-        requires count { self.old.count + 1 < 2 ^ 64 }
-        ensures ok { IfOk result (λ stepped. Steps (tx_step T.rules self.old verdict reading.now) self.new stepped) }
+        ensures ok { IfOk result (λ stepped. Steps (tx_step T.rules self.old verdict (reading blob.now)) self.new stepped) }
     {
+        if self.count == u64::MAX {
+            return Err(AllocError);
+        }
         if self.world.ledger().header().seq == 0 {
             return Ok(Stepped::Breaks(Rule::BadOrder));
         }
-        let report = apply_reading(alloc, &mut self.world, rules, verdict, reading)?;
+        let report = apply(alloc, &mut self.world, rules, verdict, blob)?;
         self.count += 1;
         let mut lines = Items::new(alloc);
         match report.result {
@@ -119,10 +121,42 @@ impl Replay {
         Ok(Stepped::Goes(lines))
     }
 
-    /// The last line.
-    pub fn end(&self, alloc: Global) -> Result<Stepped, NoMemory>
+    // The last line.
+    fn end(&self, alloc: Global) -> Result<Stepped, NoMemory>
         ensures ok { IfOk result (λ stepped. Steps (ends (final_lines self.now.ledger)) self.now stepped) }
     {
         Ok(Stepped::Ends(self.world.final_lines(alloc)?))
+    }
+
+    /// A line of the input. After want of memory nothing is known of the replay.
+    pub fn line<T: Transactor>(
+        &mut self,
+        alloc: Global,
+        rules: &T,
+        line: &InputLine,
+    ) -> Result<Stepped, NoMemory>
+        requires range { IsInRange line.now }
+        ensures ok { IfOk result (λ stepped. Steps (step T.rules self.old line.now) self.new stepped) }
+    {
+        match line {
+            InputLine::Account {
+                id,
+                balance,
+                sequence,
+            } => self.account(alloc, id, *balance, *sequence),
+            InputLine::Ledger {
+                seq,
+                time,
+                last_hash,
+            } => self.ledger(alloc, *seq, *time, last_hash),
+            InputLine::Tx { verdict, blob } => self.transaction(
+                alloc,
+                rules,
+                *verdict,
+                blob.as_slice(),
+            ),
+            InputLine::Hook { .. } => Ok(Stepped::Breaks(Rule::BadWord)),
+            InputLine::End => self.end(alloc),
+        }
     }
 }

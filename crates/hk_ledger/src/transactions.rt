@@ -1,15 +1,18 @@
 //! Transactions: their results in order, and what each of them keeps.
-ghost use Rattle.std.specs.Prelude.{◌≡◌, ◌+◌, ◌<◌, ◌≤◌, IfOk, IsOk, OnErr, OnOk};
+ghost use Rattle.std.specs.Prelude.{◌≡◌, ◌+◌, ◌<◌, ◌≤◌, length, IfOk, IsOk, OnErr, OnOk};
 ghost use Rattle.hk_ledger.specs.Conserved.{Taken};
 ghost use Rattle.hk_ledger.specs.Balances.{balances};
 ghost use Rattle.hk_ledger.specs.Reports.{Reports};
 ghost use Rattle.hk_ledger.specs.Rows.{first_row};
-ghost use Rattle.hk_ledger.specs.Transactions.{applied, IsCountable, refusal_rows, account_rows, is_before, is_after, paid, settled, Ends};
+ghost use Rattle.hk_ledger.specs.Transactions.{applied, refusal_rows, account_rows, is_before, is_after, paid, settled, Ends};
 ghost use Rattle.hk_ledger.specs.Writes.{with_writes};
+ghost use Rattle.hk_reading.specs.Reading.{reading};
+ghost use Rattle.hk_reading.specs.Readings.{IsCountable, longest};
 
-use crate::{Done, Holding, Ledger, Overlay, Reading, Report, Transactor, World};
+use crate::{Done, Holding, Ledger, Overlay, Report, Transactor, World};
 use hk_base::NoMemory;
 use hk_lines::{ResultName, Verdict};
+use hk_reading::{Reading, read};
 use std::alloc::Global;
 use xo_object::Transaction;
 
@@ -140,10 +143,8 @@ fn apply_read<T: Transactor>(
     Ok(Report::of(alloc, name, transaction.fee))
 }
 
-/// Applies a transaction, by what its bytes read as, under rules and with a verdict on its signature.
-///
-/// After a refusal for want of memory the world is as it was.
-pub fn apply_reading<T: Transactor>(
+// Applies what the bytes of a transaction read as.
+fn apply_reading<T: Transactor>(
     alloc: Global,
     world: &mut World,
     rules: &T,
@@ -161,4 +162,22 @@ pub fn apply_reading<T: Transactor>(
         Reading::Malformed => Ok(Report::of(alloc, ResultName::Malformed, 0)),
         Reading::Transaction(transaction) => apply_read(alloc, world, rules, verdict, transaction),
     }
+}
+
+/// Applies a transaction, by its bytes, under rules and with a verdict on its signature.
+///
+/// After want of memory the world is as it was. Bytes that are too long want no memory.
+pub fn apply<T: Transactor>(
+    alloc: Global,
+    world: &mut World,
+    rules: &T,
+    verdict: Verdict,
+    blob: &[u8],
+) -> Result<Report, NoMemory>
+    ensures ok { IfOk result (λ report. Reports (applied T.rules world.old.ledger verdict (reading blob.now)) world.old world.new report) }
+    ensures err { OnErr result (world.new ≡ world.old) }
+    ensures too_long { longest < length blob.now → IsOk result }
+{
+    let reading = read(alloc, blob)?;
+    apply_reading(alloc, world, rules, verdict, &reading)
 }

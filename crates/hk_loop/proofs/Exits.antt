@@ -18,6 +18,7 @@ use Rattle.hk_loop.specs.Answers.{IsAnswer, WroteFront, Gave}
 use Rattle.hk_loop.specs.Going.{StopsAt, EndsAt, BreaksAt, FailsAt}
 use Rattle.hk_loop.specs.Through.{close_at, Leaves}
 use Rattle.hk_loop.proofs.Invariant.{Going}
+use Rattle.hk_loop.proofs.Ended.{from_stays, not_yet}
 use Rattle.hk_loop.proofs.Moves.{takes_more, writes_more}
 
 -- ---- known bytes
@@ -135,6 +136,10 @@ module _ {S : Type 0} (turn : S → List ℕ → Turn S) (limit room : ℕ) (sta
   front_taken : (given_from turn start 1 (cut was.taken) opened).text ≡ was.front
   front_taken = ap (λ g. g.text) (given_taken opened) ∙ append-nil was.front
 
+  -- and nothing has ended
+  goes_taken : (given_from turn start 1 (cut was.taken) opened).status ≡ None
+  goes_taken = ap (λ g. g.status) (given_taken opened)
+
   -- what those bytes and a piece more give
   given_more : (piece : List ℕ) (more : Cut) (close : Close) →
       given_from turn start 1 (joined (cut (was.taken ++ piece)) more) close
@@ -159,13 +164,27 @@ module _ {S : Type 0} (turn : S → List ℕ → Turn S) (limit room : ℕ) (sta
       (subst (λ text. IsFront (given_from turn start 1 (cut early) opened).text text) all
       (from_front turn (cut early) (cut rest) start 1 opened))
 
+  -- all but so many of the bytes had ended nothing
+  goes_front : (piece early late : List ℕ) → length (was.taken ++ piece) ≤ limit → length piece ≤ 65536 → was.taken ++ piece ≡ early ++ late →
+      65536 ≤ length late → (given turn limit start early opened).status ≡ None
+  goes_front piece early late few size is much =
+      let rest : List ℕ = drop (length early) was.taken in
+      let parts : was.taken ≡ early ++ rest = front_of early late was.taken piece is (omega arith) in
+      let below : length early < limit = omega (arith, ap length is, length-append early late) in
+      let joins : cut was.taken ≡ joined (cut early) (cut rest) = ap cut parts ∙ cut_joined early rest in
+      let none : (given_from turn start 1 (joined (cut early) (cut rest)) opened).status ≡ None =
+      ap (λ c. (given_from turn start 1 c opened).status) (sym joins) ∙ goes_taken in
+      ap (λ g. g.status) (given_short turn limit start early opened below)
+      ∙ not_yet (given_from turn start 1 (cut early) opened) (given_from turn start 1 (joined (cut early) (cut rest)) opened)
+      (from_stays turn (cut early) (cut rest) start 1 opened) none
+
   -- a last piece was taken, and a front of what comes then was written
   leave : (piece rest bytes : List ℕ) (status : Status) (left' written' : Option (List ℕ)) (later : Given) → bytes ≡ (was.taken ++ piece) ++ rest →
       left' ≡ Some rest → length piece ≤ room → length piece ≤ 65536 → (status ≡ TooLong → room ≡ length piece) →
       given turn limit start (was.taken ++ piece) (close_at rest) ≡ after was.front later → (wrote : WroteFront later.text written written') →
-      (status ≡ ReadFault → was.front ++ wrote.front ≡ so_far turn limit start (was.taken ++ piece)) →
+      (IsAnswer status → Gave later status written written') → (status ≡ ReadFault → was.front ++ wrote.front ≡ so_far turn limit start (was.taken ++ piece)) →
       Leaves turn limit start bytes status left' written0 written'
-  leave piece rest bytes status left' written' later split told most size no_more is wrote failed =
+  leave piece rest bytes status left' written' later split told most size no_more is wrote gave failed =
       let few : length (was.taken ++ piece) ≤ limit = omega (arith, length-append was.taken piece, was.size) in
       record {
         taken = was.taken ++ piece;
@@ -175,10 +194,12 @@ module _ {S : Type 0} (turn : S → List ℕ → Turn S) (limit room : ℕ) (sta
         told = told;
         wrote = writes_more _ _ _ _ _ was.wrote wrote.wrote;
         few = few;
+        answered = λ answer. gave_after was.front later (given turn limit start (was.taken ++ piece) (close_at rest)) status written0 written written' was.wrote is (gave answer);
         full = λ long. let all : room ≡ length piece = no_more long in omega (arith, length-append was.taken piece, was.size);
         due = subst (λ g. IsFront (was.front ++ wrote.front) g.text) (sym is)
             (front_behind was.front wrote.front later.text (wrote.more, wrote.whole));
         prompt = λ early late parts much. front_more _ was.front wrote.front (prompt_front piece early late few size parts much);
+        goes = λ early late parts much. goes_front piece early late few size parts much;
         failed = failed;
       }
 
@@ -212,7 +233,7 @@ module _ {S : Type 0} (turn : S → List ℕ → Turn S) (limit room : ℕ) (sta
       leave piece rest bytes status left' written' (given_from turn state number (behind held) ended) split told most size (λ long. absurd (short long))
       (given_end piece rest some ends.nothing (at_end_none left' rest ends.at_end told))
       (wrote_front status (given_from turn state number (behind held) ended) written written' ends.answered ends.stopped)
-      (λ fault. absurd (ends.no_read_fault fault))
+      ends.answered (λ fault. absurd (ends.no_read_fault fault))
 
   -- ---- a piece ended the command
 
@@ -246,7 +267,7 @@ module _ {S : Type 0} (turn : S → List ℕ → Turn S) (limit room : ℕ) (sta
       leave piece rest bytes status left' written' later split told most size (λ long. absurd (short long)) (given_break piece rest most)
       (wrote_front status later written written' (λ answer. breaks.answered answer (behind []) close)
       (λ accident. breaks.stopped accident (behind []) close))
-      (λ fault. absurd (breaks.no_read_fault fault))
+      (λ answer. breaks.answered answer (behind []) close) (λ fault. absurd (breaks.no_read_fault fault))
 
   -- ---- a read failed
 
@@ -264,7 +285,7 @@ module _ {S : Type 0} (turn : S → List ℕ → Turn S) (limit room : ℕ) (sta
       ∙ front_taken in
       leave piece rest bytes status left' written' later split told most size (λ long. absurd (short long)) (given_break piece rest most)
       (record { front = []; more = later.text; whole = refl; wrote = fails.still })
-      (λ _. append-nil was.front ∙ sym due)
+      (λ answer. absurd (subst IsAnswer fails.failed answer)) (λ _. append-nil was.front ∙ sym due)
 
   -- ---- whichever of these
 
@@ -340,7 +361,8 @@ module _ {S : Type 0} (turn : S → List ℕ → Turn S) (limit room : ℕ) (sta
       let all : Took bytes was.taken left = took left0 left was.taken bytes was.consumed known in
       leave [] all.rest bytes status left written' too_long (all.split ∙ ap (λ t. t ++ all.rest) (sym (append-nil was.taken))) all.told
       (omega arith) (omega arith) (λ _. none) (given_limit [] (close_at all.rest) none)
-      (wrote_front status too_long written written' (told_all status written' tells) tells.stopped) (λ fault. absurd (unfailed fault))
+      (wrote_front status too_long written written' (told_all status written' tells) tells.stopped) (told_all status written' tells)
+      (λ fault. absurd (unfailed fault))
 
 -- a count that rose since a later moment rose since an earlier one
 pub rose_since : (start before now : ℕ) → start ≤ before → Rose before now → Rose start now

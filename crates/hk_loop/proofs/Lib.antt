@@ -1,4 +1,5 @@
 pub mod Feeding
 pub mod Moves
 pub mod Invariant
+pub mod Ended
 pub mod Exits

@@ -15,9 +15,9 @@ IsAnswer ReadFault = ⊥
 IsAnswer WriteFault = ⊥
 IsAnswer NoMemory = ⊥
 
--- statuses with which a line ends a command: that the input is too long isn't for a line to say
+-- statuses with which a line ends a command: that the input is too long, or that the words are no command, isn't for a line to say
 abbrev pub IsEnd : Status → Type 0
-IsEnd status = IsAnswer status × (status ≢ TooLong)
+IsEnd status = IsAnswer status × (status ≢ TooLong) × (status ≢ Usage)
 
 -- the front of a text was written
 pub record WroteFront (text : List ℕ) (before now : Option (List ℕ)) : Type 0 where

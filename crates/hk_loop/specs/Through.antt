@@ -1,8 +1,9 @@
 -- What a command writes and answers when it has gone through its input, or was stopped on the way (this project's own).
-use Rattle.std.specs.Prelude.{◌≡◌, ◌≤◌, ◌⊎◌, ℕ, List, [], ◌∷◌, ◌++◌, length, Option, Some}
+use Rattle.std.specs.Prelude.{◌≡◌, ◌≤◌, ◌⊎◌, ℕ, List, [], ◌∷◌, ◌++◌, length, Option, Some, None}
 use Rattle.std.specs.Io.KnownBytes.{Appends}
 use Rattle.hk_lines.specs.Given.{Close, opened, ended, Turn, given, gives, so_far, IsFront}
 use Rattle.hk_lines.specs.declared.status.Status.{Status}
+use Rattle.hk_loop.specs.Answers.{IsAnswer, Gave}
 use Rattle.hk_lines.specs.declared.status.Status.TheVariants.{ReadFault, NoMemory, TooLong}
 
 -- where nothing is left the input ends
@@ -21,10 +22,14 @@ pub record Leaves {S : Type 0} (turn : S → List ℕ → Turn S) (limit : ℕ) 
   -- no more bytes were taken than may be, and as many where the input is too long
   pub few : length taken ≤ limit
   pub full : status ≡ TooLong → length taken ≡ limit
+  -- an answer is that of the bytes that were taken
+  pub answered : IsAnswer status → Gave (given turn limit start taken (close_at rest)) status before now
   -- no more was written than is due for the bytes that were taken
   pub due : IsFront front (given turn limit start taken (close_at rest)).text
   -- no less was written than is due for all of them but the last 65,536
   pub prompt : (early late : List ℕ) → taken ≡ early ++ late → 65536 ≤ length late → IsFront (so_far turn limit start early) front
+  -- these hadn't ended
+  pub goes : (early late : List ℕ) → taken ≡ early ++ late → 65536 ≤ length late → (given turn limit start early opened).status ≡ None
   -- where a read failed, all that is due was written, and no end of input was taken for granted
   pub failed : status ≡ ReadFault → front ≡ so_far turn limit start taken
 

@@ -1,5 +1,5 @@
 //! A command goes on by one read.
-ghost use Rattle.std.specs.Prelude.{◌≡◌, ◌≤◌, ◌<◌, ◌+◌, ◌^◌, length, take, IfOk, IfErr, OnErr};
+ghost use Rattle.std.specs.Prelude.{◌≡◌, ◌≢◌, ◌≤◌, ◌<◌, ◌+◌, ◌^◌, length, take, IfOk, IfErr, OnErr};
 ghost use Rattle.std.specs.Io.KnownBytes.{Consumes, IsAtEnd, Keeps};
 ghost use Rattle.hk_base.specs.Outside.{Rose};
 ghost use Rattle.hk_lines.specs.Cutting.{IsUnfinished};
@@ -32,6 +32,7 @@ pub(crate) fn take_next<C: Command, S: Source, K: Sink>(
         command.new number.new cutter.new (S.left source.new) (K.written sink.new)) }
     ensures stops { IfErr result (λ status. StopsAt C.turn status room command.old number.old cutter.old (S.left source.old) (K.written sink.old)
         (S.left source.new) (K.written sink.new)) }
+    ensures no_usage { IfErr result (λ status. status ≢ Status.Usage) }
     ensures read_fault { IfErr result (λ status. status ≡ Status.ReadFault → Rose (S.faults source.old) (S.faults source.new)) }
     ensures write_fault { IfErr result (λ status. status ≡ Status.WriteFault → Rose (K.faults sink.old) (K.faults sink.new)) }
     ensures source_count { S.faults source.old ≤ S.faults source.new }

@@ -50,6 +50,7 @@ pub(crate) fn write_piece<C: Command, K: Sink>(
         (K.written sink.old) (K.written sink.new)) }
     ensures not_full { IfErr result (λ status. status ≢ Status.TooLong) }
     ensures no_read_fault { IfErr result (λ status. status ≢ Status.ReadFault) }
+    ensures no_usage { IfErr result (λ status. status ≢ Status.Usage) }
     ensures write_fault { IfErr result (λ status. status ≡ Status.WriteFault → Rose (K.faults sink.old) (K.faults sink.new)) }
     ensures later { K.faults sink.old ≤ K.faults sink.new }
 {
@@ -81,6 +82,7 @@ pub(crate) fn take_end<C: Command, K: Sink>(
         WroteFront (given_from C.turn command.old number (behind cutter.now) ended).text (K.written sink.old) (K.written sink.new) }
     ensures not_full { result ≢ Status.TooLong }
     ensures no_read_fault { result ≢ Status.ReadFault }
+    ensures no_usage { result ≢ Status.Usage }
     ensures write_fault { result ≡ Status.WriteFault → Rose (K.faults sink.old) (K.faults sink.new) }
     ensures later { K.faults sink.old ≤ K.faults sink.new }
 {

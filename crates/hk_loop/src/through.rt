@@ -1,5 +1,5 @@
 //! A command goes through its whole input.
-ghost use Rattle.std.specs.Prelude.{◌≡◌, ◌≤◌, ◌<◌, ◌^◌, List, ℕ};
+ghost use Rattle.std.specs.Prelude.{◌≡◌, ◌≢◌, ◌≤◌, ◌<◌, ◌^◌, List, ℕ};
 ghost use Rattle.hk_base.specs.Outside.{Rose};
 ghost use Rattle.hk_lines.specs.Given.{gives};
 ghost use Rattle.hk_loop.specs.Answers.{IsAnswer, Gave};
@@ -33,6 +33,7 @@ pub fn go_through<C: Command, S: Source, K: Sink>(
     // Whatever it answers, no more was written than is due for the bytes taken, and no less than was due one piece before.
     ensures leaves { (bytes : List ℕ) → S.left source.old ≡ Some bytes →
         Leaves C.turn limit command.old bytes result (S.left source.new) (K.written sink.old) (K.written sink.new) }
+    ensures no_usage { result ≢ Status.Usage }
     ensures read_fault { result ≡ Status.ReadFault → Rose (S.faults source.old) (S.faults source.new) }
     ensures write_fault { result ≡ Status.WriteFault → Rose (K.faults sink.old) (K.faults sink.new) }
     ensures source_count { S.faults source.old ≤ S.faults source.new }

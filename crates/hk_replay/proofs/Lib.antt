@@ -1,3 +1,4 @@
-pub mod Inputs
-pub mod Moves
+pub mod Ranges
+pub mod Texts
 pub mod Giving
+pub mod Stopping

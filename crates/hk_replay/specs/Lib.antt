@@ -1,4 +1,5 @@
-pub mod Input
-pub mod Line
+pub mod Words
+pub mod HookLines
+pub mod Replaying
 pub mod Answers
 pub mod Moved

@@ -1,58 +1,55 @@
 -- What was taken from a source and written to a sink when a call of the program ended (this project's own).
-use Rattle.std.specs.Prelude.{ℕ, ◌≡◌, ◌≤◌, ◌⊎◌, List, [], ◌++◌, length, Option, Some}
+use Rattle.std.specs.Prelude.{ℕ, ◌≡◌, ◌≤◌, ◌⊎◌, List, [], ◌∷◌, ◌++◌, length, Option, Some, None}
 use Rattle.std.specs.Io.KnownBytes.{Appends}
-use Rattle.hk_replay.specs.declared.status.Status.{Status}
-use Rattle.hk_replay.specs.declared.status.Status.TheVariants.{Usage, WriteFault, NoMemory}
-use Rattle.hk_replay.specs.Answers.{IsRun, Gives, usage_line}
-
--- the most bytes that are taken: one more than a right input has
-abbrev pub most_taken : ℕ
-most_taken = 379
-
--- of these bytes some were taken, and the rest is left
-pub record Took (bytes taken : List ℕ) (left : Option (List ℕ)) : Type 0 where
-  pub rest : List ℕ
-  pub whole : bytes ≡ taken ++ rest
-  pub told : left ≡ Some rest
-
--- of these bytes as many were taken as may be, or fewer
-pub record TookFew (bytes : List ℕ) (left : Option (List ℕ)) : Type 0 where
-  pub taken : List ℕ
-  pub took : Took bytes taken left
-  pub few : length taken ≤ most_taken
+use Rattle.hk_lines.specs.Given.{Close, opened, IsFront}
+use Rattle.hk_lines.specs.Numbers.{longest_input}
+use Rattle.hk_lines.specs.declared.status.Status.{Status}
+use Rattle.hk_lines.specs.declared.status.Status.TheVariants.{Done, Usage, WriteFault, NoMemory, TooLong}
+use Rattle.hk_loop.specs.Answers.{IsAnswer, WroteFront}
+use Rattle.hk_loop.specs.Through.{close_at}
+use Rattle.hk_replay.specs.declared.command.Command.{Command}
+use Rattle.hk_replay.specs.declared.command.Command.TheVariants.{Run, Replay, Other}
+use Rattle.hk_replay.specs.Answers.{GivesFor, IsReply, hook_lines, replay_lines, usage_line}
 
 -- a text was written that is given with this status
-pub record Answered (words : List (List ℕ)) (bytes : List ℕ) (status : Status) (before now : Option (List ℕ)) : Type 0 where
+pub record Answered (command : Command) (bytes : List ℕ) (status : Status) (before now : Option (List ℕ)) : Type 0 where
   pub text : List ℕ
-  pub given : Gives words bytes text status
+  pub given : GivesFor command bytes text status
   pub wrote : Appends before now text
 
--- the front of a text was written
-pub record WroteFront (text : List ℕ) (before now : Option (List ℕ)) : Type 0 where
-  pub front : List ℕ
-  pub more : List ℕ
-  pub whole : text ≡ front ++ more
-  pub wrote : Appends before now front
+-- the text that lines of `run` make due: nothing while they go on, then what they are answered
+abbrev pub RepliesDue : Option Status → List ℕ → List ℕ → Type 0
+RepliesDue (Some Done) code text = (status : Status) × IsReply code text status
+RepliesDue (Some other) shown text = text ≡ shown
+RepliesDue None shown text = text ≡ []
 
--- no more bytes are taken after these
-abbrev pub IsLast : List (List ℕ) → List ℕ → List ℕ → Type 0
-IsLast words taken rest = IsRun words → (rest ≡ []) ⊎ (length taken ≡ most_taken)
+-- the text that is due once these bytes were taken, by what comes behind them
+abbrev pub DueFor : Command → List ℕ → Close → List ℕ → Type 0
+DueFor Run bytes close text = RepliesDue (hook_lines bytes close).status (hook_lines bytes close).text text
+DueFor Replay bytes close text = text ≡ (replay_lines bytes close).text
+DueFor Other bytes close text = text ≡ usage_line
 
--- nothing, or the text that is given
-abbrev pub IsNoneOrGiven : List (List ℕ) → List ℕ → List ℕ → Type 0
-IsNoneOrGiven words bytes text = (text ≡ []) ⊎ ((status : Status) × Gives words bytes text status)
-
--- the text that is due once these bytes were taken: nothing as long as more are taken, then the whole text
-abbrev pub IsDue : List (List ℕ) → List ℕ → List ℕ → List ℕ → Type 0
-IsDue words taken rest text = (text ≡ []) ⊎ (IsLast words taken rest × (status : Status) × Gives words taken text status)
-
--- where the program stopped before its end, the front of the text that is due was written
-pub record StopsAfter (words : List (List ℕ)) (bytes : List ℕ) (left before now : Option (List ℕ)) : Type 0 where
-  pub taken : List ℕ
-  pub took : Took bytes taken left
+-- a front of a text that is due was written, if anything was
+pub record WroteDue (command : Command) (bytes : List ℕ) (close : Close) (front : List ℕ) : Type 0 where
   pub text : List ℕ
-  pub due : IsDue words taken took.rest text
-  pub wrote : WroteFront text before now
+  pub due : DueFor command bytes close text
+  pub is : IsFront front text
+
+-- some bytes were taken and a text was written when the program answered this status
+pub record Stops (command : Command) (bytes : List ℕ) (status : Status) (left before now : Option (List ℕ)) : Type 0 where
+  pub taken : List ℕ
+  pub rest : List ℕ
+  pub front : List ℕ
+  pub split : bytes ≡ taken ++ rest
+  pub told : left ≡ Some rest
+  pub wrote : Appends before now front
+  -- no more bytes were taken than may be, and as many where the input is too long
+  pub few : length taken ≤ longest_input
+  pub full : status ≡ TooLong → length taken ≡ longest_input
+  -- no more was written than is due for the bytes that were taken
+  pub due : (front ≡ []) ⊎ WroteDue command taken (close_at rest) front
+  -- no less was written than is due for all of them but the last 65,536
+  pub prompt : (early late text : List ℕ) → taken ≡ early ++ late → 65536 ≤ length late → DueFor command early opened text → IsFront text front
 
 -- for words that are no command: the usage line, or its front and why no more of it was written
 abbrev pub TellsUsage : Status → Option (List ℕ) → Option (List ℕ) → Type 0
@@ -60,3 +57,10 @@ TellsUsage Usage before now = Appends before now usage_line
 TellsUsage WriteFault before now = WroteFront usage_line before now
 TellsUsage NoMemory before now = WroteFront usage_line before now
 TellsUsage status before now = ⊥
+
+-- a code's answer was written, or a front of it, if anything was
+pub record Tells (code : List ℕ) (status : Status) (before now : Option (List ℕ)) : Type 0 where
+  pub front : List ℕ
+  pub wrote : Appends before now front
+  pub answered : IsAnswer status → IsReply code front status
+  pub due : (front ≡ []) ⊎ ((text : List ℕ) × (other : Status) × IsReply code text other × IsFront front text)

@@ -1,17 +1,18 @@
 //! The program's top call.
 #![tactic(auto)]
 
-mod input;
+mod command;
+mod hook_lines;
 mod laws;
-mod line;
 mod program;
-mod reading;
+mod replaying;
 mod reply;
 mod status;
 #[cfg(test)]
 mod tests;
-mod writing;
+mod words;
 
+pub use hk_lines::Status;
 pub use laws::one_answer;
 pub use program::top;
-pub use status::Status;
+pub use status::exit_status;

@@ -1,25 +1,28 @@
 //! The program.
-ghost use Rattle.std.specs.Prelude.{◌≡◌, ◌≢◌, ◌≤◌, ◌⊎◌, ◌↔◌, ◌∷◌, [], List, ℕ, Some, map, codes, length, IsTrue, string_bytes};
+ghost use Rattle.std.specs.Prelude.{◌≡◌, ◌≢◌, ◌≤◌, ◌⊎◌, List, ℕ, Some, map, string_bytes};
 ghost use Rattle.std.specs.Io.KnownBytes.{Appends};
 ghost use Rattle.hk_base.specs.Outside.{Rose};
-ghost use Rattle.hk_replay.specs.declared.status.Status.{Status};
-ghost use Rattle.hk_replay.specs.Answers.{IsRun, IsAnswer, Gives};
-ghost use Rattle.hk_replay.specs.Moved.{Answered, IsNoneOrGiven, StopsAfter, TellsUsage, TookFew, WroteFront};
+ghost use Rattle.hk_loop.specs.Answers.{IsAnswer};
+ghost use Rattle.hk_replay.specs.Answers.{command_of, Gives, IsReply};
+ghost use Rattle.hk_replay.specs.Moved.{Answered, Stops, TellsUsage, Tells};
 
-use crate::reading::{ReadStop, read_up_to};
+use crate::command::{Command, command_of};
+use crate::hook_lines::HookLines;
+use crate::replaying::Replaying;
 use crate::reply::reply_to;
-use crate::status::Status;
-use crate::writing::write_all;
-use hk_base::{Sink, SinkStop, Source};
+use hk_base::{HonestSink, Sink, Source};
+use hk_lines::Status;
+use hk_loop::{go_through, write_answer};
 use std::alloc::Global;
 
-/// The most bytes that are taken: one more than a right input has.
-const MOST_TAKEN: usize = 379;
+/// The most bytes of input that are taken.
+const LONGEST_INPUT: usize = 1_073_741_824;
 
 /// The program, by its words, its input and its output.
 ///
-/// `run` reads an input of one `hook` line and the line `end`, checks the hook's code, runs it once with argument 0, and
-/// prints the line of its ending. All other words print the usage line.
+/// `run` reads one `hook` line and `end`, checks the hook's code, runs it once with argument 0, and prints the line of its ending.
+/// `replay` reads accounts, ledgers and transactions up to `end`, and prints what each of them does, and at the end all accounts.
+/// All other words print the usage line.
 pub fn top<S: Source, K: Sink>(
     alloc: Global,
     words: &[String],
@@ -28,7 +31,7 @@ pub fn top<S: Source, K: Sink>(
 ) -> Status
     // An answer and what was written are those that are given for the words and all bytes of the source.
     ensures answered { IsAnswer result → (bytes : List ℕ) → S.left source.old ≡ Some bytes →
-        Answered (map string_bytes words.now) bytes result (K.written sink.old) (K.written sink.new) }
+        Answered (command_of (map string_bytes words.now)) bytes result (K.written sink.old) (K.written sink.new) }
 
     // Without a fault it answers what is given, or want of memory.
     ensures exact { ¬ Rose (S.faults source.old) (S.faults source.new) → ¬ Rose (K.faults sink.old) (K.faults sink.new) →
@@ -36,92 +39,79 @@ pub fn top<S: Source, K: Sink>(
         Gives (map string_bytes words.now) bytes text status → (result ≡ status) ⊎ (result ≡ Status.NoMemory) }
 
     // Words that are no command get the usage line, and nothing is taken.
-    ensures usage { ¬ IsRun (map string_bytes words.now) → TellsUsage result (K.written sink.old) (K.written sink.new) }
-    ensures untouched { ¬ IsRun (map string_bytes words.now) → source.new ≡ source.old }
-    ensures no_usage { IsRun (map string_bytes words.now) → result ≢ Status.Usage }
+    ensures usage { command_of (map string_bytes words.now) ≡ Command.Other → TellsUsage result (K.written sink.old) (K.written sink.new) }
+    ensures untouched { command_of (map string_bytes words.now) ≡ Command.Other → source.new ≡ source.old }
+    ensures no_usage { command_of (map string_bytes words.now) ≢ Command.Other → result ≢ Status.Usage }
+
+    // Whatever it answers, no more was written than is due for the bytes that were taken, and no less than was due one piece before.
+    ensures stops { (bytes : List ℕ) → S.left source.old ≡ Some bytes →
+        Stops (command_of (map string_bytes words.now)) bytes result (S.left source.new) (K.written sink.old) (K.written sink.new) }
 
     // A fault has its cause, and no count falls.
     ensures read_fault { result ≡ Status.ReadFault → Rose (S.faults source.old) (S.faults source.new) }
     ensures write_fault { result ≡ Status.WriteFault → Rose (K.faults sink.old) (K.faults sink.new) }
     ensures source_count { S.faults source.old ≤ S.faults source.new }
     ensures sink_count { K.faults sink.old ≤ K.faults sink.new }
-
-    // After a fault or want of memory, the front of the text that is due was written.
-    ensures stopped { ¬ IsAnswer result → (bytes : List ℕ) → S.left source.old ≡ Some bytes →
-        StopsAfter (map string_bytes words.now) bytes (S.left source.new) (K.written sink.old) (K.written sink.new) }
-
-    ensures taken { (bytes : List ℕ) → S.left source.old ≡ Some bytes → TookFew bytes (S.left source.new) }
-    ensures not_too_long { result ≢ Status.TooLong }
 {
-    if is_run(words) {
-        run(alloc, source, sink)
-    } else {
-        finish(
+    match command_of(words) {
+        Command::Run => run(alloc, source, sink),
+        Command::Replay => replay(alloc, source, sink),
+        Command::Other => write_answer(
             sink,
             b"usage: hooks check | run | replay | demo N\n",
             Status::Usage,
-        )
+        ),
     }
 }
 
-fn is_run(words: &[String]) -> bool
-    ensures run { IsTrue result ↔ IsRun (map string_bytes words.now) }
-{
-    let [word] = words else {
-        return false;
-    };
-    word.as_str() == "run"
-}
-
-// The command `run`.
-fn run<S: Source, K: Sink>(alloc: Global, source: &mut S, sink: &mut K) -> Status
+// The command `replay`.
+fn replay<S: Source, K: Sink>(alloc: Global, source: &mut S, sink: &mut K) -> Status
     ensures answered { IsAnswer result → (bytes : List ℕ) → S.left source.old ≡ Some bytes →
-        Answered (codes "run" ∷ []) bytes result (K.written sink.old) (K.written sink.new) }
+        Answered Command.Replay bytes result (K.written sink.old) (K.written sink.new) }
     ensures no_usage { result ≢ Status.Usage }
+    ensures stops { (bytes : List ℕ) → S.left source.old ≡ Some bytes →
+        Stops Command.Replay bytes result (S.left source.new) (K.written sink.old) (K.written sink.new) }
     ensures read_fault { result ≡ Status.ReadFault → Rose (S.faults source.old) (S.faults source.new) }
     ensures write_fault { result ≡ Status.WriteFault → Rose (K.faults sink.old) (K.faults sink.new) }
     ensures source_count { S.faults source.old ≤ S.faults source.new }
     ensures sink_count { K.faults sink.old ≤ K.faults sink.new }
-    ensures stopped { ¬ IsAnswer result → (bytes : List ℕ) → S.left source.old ≡ Some bytes →
-        StopsAfter (codes "run" ∷ []) bytes (S.left source.new) (K.written sink.old) (K.written sink.new) }
-    ensures taken { (bytes : List ℕ) → S.left source.old ≡ Some bytes → TookFew bytes (S.left source.new) }
-    ensures not_too_long { result ≢ Status.TooLong }
 {
-    match read_up_to(alloc, MOST_TAKEN, source) {
-        Ok(bytes) => answer(alloc, bytes.as_slice(), sink),
-        Err(ReadStop::Failed) => Status::ReadFault,
-        Err(ReadStop::NoMemory) => Status::NoMemory,
+    let mut replaying = Replaying::new(alloc);
+    go_through(alloc, LONGEST_INPUT, &mut replaying, source, sink)
+}
+
+// The command `run`. Its lines give the hook's code, or what is wrong with them; both are written to memory first.
+fn run<S: Source, K: Sink>(alloc: Global, source: &mut S, sink: &mut K) -> Status
+    ensures answered { IsAnswer result → (bytes : List ℕ) → S.left source.old ≡ Some bytes →
+        Answered Command.Run bytes result (K.written sink.old) (K.written sink.new) }
+    ensures no_usage { result ≢ Status.Usage }
+    ensures stops { (bytes : List ℕ) → S.left source.old ≡ Some bytes →
+        Stops Command.Run bytes result (S.left source.new) (K.written sink.old) (K.written sink.new) }
+    ensures read_fault { result ≡ Status.ReadFault → Rose (S.faults source.old) (S.faults source.new) }
+    ensures write_fault { result ≡ Status.WriteFault → Rose (K.faults sink.old) (K.faults sink.new) }
+    ensures source_count { S.faults source.old ≤ S.faults source.new }
+    ensures sink_count { K.faults sink.old ≤ K.faults sink.new }
+{
+    let mut lines = HookLines::new();
+    let mut shown = HonestSink::new(alloc);
+    match go_through(alloc, LONGEST_INPUT, &mut lines, source, &mut shown) {
+        Status::Done => answer(alloc, shown.written(), sink),
+        Status::ReadFault => Status::ReadFault,
+        Status::NoMemory => Status::NoMemory,
+        status => write_answer(sink, shown.written(), status),
     }
 }
 
-// Writes what `run` gives for these bytes.
-fn answer<K: Sink>(alloc: Global, bytes: &[u8], sink: &mut K) -> Status
-    ensures answered { IsAnswer result →
-        Answered (codes "run" ∷ []) bytes.now result (K.written sink.old) (K.written sink.new) }
-    ensures stopped { ¬ IsAnswer result → (text : List ℕ) × IsNoneOrGiven (codes "run" ∷ []) bytes.now text
-        × WroteFront text (K.written sink.old) (K.written sink.new) }
+// Writes what a code is answered.
+fn answer<K: Sink>(alloc: Global, code: &[u8], sink: &mut K) -> Status
+    ensures told { Tells code.now result (K.written sink.old) (K.written sink.new) }
     ensures no_read_fault { result ≢ Status.ReadFault }
+    ensures no_usage { result ≢ Status.Usage }
     ensures write_fault { result ≡ Status.WriteFault → Rose (K.faults sink.old) (K.faults sink.new) }
-    ensures sink_count { K.faults sink.old ≤ K.faults sink.new }
+    ensures later { K.faults sink.old ≤ K.faults sink.new }
 {
-    match reply_to(alloc, bytes) {
-        Ok(reply) => finish(sink, reply.text.as_slice(), reply.status),
+    match reply_to(alloc, code) {
+        Ok(reply) => write_answer(sink, reply.text.as_slice(), reply.status),
         Err(_) => Status::NoMemory,
-    }
-}
-
-// Writes a text and answers the status, or why not all of it was written.
-fn finish<K: Sink>(sink: &mut K, text: &[u8], status: Status) -> Status
-    requires answer { IsAnswer status }
-    ensures whole { IsAnswer result → (result ≡ status) × Appends (K.written sink.old) (K.written sink.new) text.now }
-    ensures front { ¬ IsAnswer result → WroteFront text.now (K.written sink.old) (K.written sink.new) }
-    ensures no_read_fault { result ≢ Status.ReadFault }
-    ensures write_fault { result ≡ Status.WriteFault → Rose (K.faults sink.old) (K.faults sink.new) }
-    ensures sink_count { K.faults sink.old ≤ K.faults sink.new }
-{
-    match write_all(sink, text) {
-        Ok(()) => status,
-        Err(SinkStop::Failed) => Status::WriteFault,
-        Err(SinkStop::NoMemory) => Status::NoMemory,
     }
 }

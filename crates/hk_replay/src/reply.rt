@@ -1,13 +1,10 @@
-//! What `run` prints and answers.
-ghost use Rattle.std.specs.Prelude.{◌≡◌, ◌∷◌, [], List, ℕ, codes, IfOk};
+//! What a code is answered.
+ghost use Rattle.std.specs.Prelude.{◌≡◌, List, ℕ, IfOk};
 ghost use Rattle.wa_ops.specs.Sequences.{Sequence, Reads};
-ghost use Rattle.hk_replay.specs.Answers.{Gives, IsLineOf};
-ghost use Rattle.hk_replay.specs.Input.{IsInput};
+ghost use Rattle.hk_replay.specs.Answers.{IsReply, IsLineOf};
 
-use crate::input::code_of;
-use crate::line::run_line;
-use crate::status::Status;
 use hk_base::NoMemory;
+use hk_lines::{OutputLine, Status, print_line};
 use std::alloc::{AllocError, Global};
 use wa_exec::{CheckFault, Checked, Ended, Export, Instance, check};
 
@@ -18,26 +15,9 @@ pub(crate) struct Reply {
     pub(crate) status: Status,
 }
 
-/// What `run` prints and answers for an input.
-pub(crate) fn reply_to(alloc: Global, bytes: &[u8]) -> Result<Reply, NoMemory>
-    ensures given { IfOk result (λ reply. Gives (codes "run" ∷ []) bytes.now reply.text.items reply.status) }
-{
-    match code_of(alloc, bytes)? {
-        None => {
-            let text = Vec::from_slice(alloc, b"bad 0 not_yet\n")?;
-            Ok(Reply {
-                text,
-                status: Status::BadInput,
-            })
-        }
-        Some(code) => reply_to_code(alloc, bytes, code.as_slice()),
-    }
-}
-
-// What `run` prints and answers for an input with this code.
-fn reply_to_code(alloc: Global, bytes: &[u8], code: &[u8]) -> Result<Reply, NoMemory>
-    requires input { IsInput bytes.now code.now }
-    ensures given { IfOk result (λ reply. Gives (codes "run" ∷ []) bytes.now reply.text.items reply.status) }
+/// What a code is answered: it is checked, and its hook run once with argument 0.
+pub(crate) fn reply_to(alloc: Global, code: &[u8]) -> Result<Reply, NoMemory>
+    ensures reply { IfOk result (λ reply. IsReply code.now reply.text.items reply.status) }
 {
     match check(alloc, code) {
         Ok(checked) => {
@@ -64,5 +44,14 @@ fn run_to_end(alloc: Global, checked: &Checked) -> Result<Vec<u8>, NoMemory>
 {
     let instance = Instance::new(alloc, checked, Export::Hook, 0)?;
     let Ended { outcome, count } = instance.run(checked);
-    run_line(alloc, &outcome, count, checked.bound_hook())
+    let mut text = Vec::new(alloc);
+    print_line(
+        &mut text,
+        &OutputLine::Run {
+            outcome,
+            count,
+            bound: checked.bound_hook(),
+        },
+    )?;
+    Ok(text)
 }

@@ -1,7 +1,7 @@
-//! `run` on hooks by hand, wrong inputs, other words, and faults.
+//! The commands on lines by hand, wrong lines, other words, and faults.
 ghost use Rattle.std.specs.Prelude.{◌≤◌, Some};
 
-use crate::{Status, top};
+use crate::{Status, exit_status, top};
 use hk_base::{HonestSink, HonestSource, MemSink, MemSource, NoMemory, Sink, SinkStop, StdSink};
 use std::alloc::Global;
 use std::test::Fail;
@@ -28,15 +28,38 @@ fn words_of(alloc: Global, words: &[&str]) -> Result<Vec<String>, NoMemory> {
     Ok(list)
 }
 
-// What `run` prints and answers for an input that comes in pieces.
-fn run_in_pieces(
+// A text in which A, B and C stand for accounts and O for a hash of zeros.
+fn spelled(alloc: Global, text: &str) -> Result<Vec<u8>, NoMemory> {
+    let mut bytes = Vec::new(alloc);
+    for byte in text.as_bytes() {
+        match byte {
+            b'A' => repeat(&mut bytes, b'1', 40)?,
+            b'B' => repeat(&mut bytes, b'2', 40)?,
+            b'C' => repeat(&mut bytes, b'3', 40)?,
+            b'O' => repeat(&mut bytes, b'0', 64)?,
+            other => bytes.push(*other)?,
+        }
+    }
+    Ok(bytes)
+}
+
+fn repeat(bytes: &mut Vec<u8>, byte: u8, count: usize) -> Result<(), NoMemory> {
+    for _ in 0..count {
+        bytes.push(byte)?;
+    }
+    Ok(())
+}
+
+// What a command prints and answers for an input that comes in pieces.
+fn in_pieces(
     alloc: Global,
+    word: &str,
     input: &[u8],
     piece: usize,
 ) -> Result<(Status, HonestSink), NoMemory>
     requires some { 1 ≤ piece }
 {
-    let words = words_of(alloc, &["run"])?;
+    let words = words_of(alloc, &[word])?;
     let mut source = HonestSource::new(Vec::from_slice(alloc, input)?, piece);
     let mut sink = HonestSink::new(alloc);
     let status = top(alloc, words.as_slice(), &mut source, &mut sink);
@@ -53,9 +76,9 @@ fn hooks_run_to_their_printed_endings(rt: HostRuntime) -> Result<(), Fail> {
         ("", Status::HookRefused, "refused not yet\n"),
     ];
     for (code, status, text) in rows {
-        let input = format!(in alloc; "hook {HEAD}{code}\nend\n")?;
+        let input = format!(in alloc; "# a hook\n\nhook {HEAD}{code}\r\nend")?;
         for piece in [1usize, 7, 64, 500] {
-            let (answer, sink) = run_in_pieces(alloc, input.as_bytes(), piece)?;
+            let (answer, sink) = in_pieces(alloc, "run", input.as_bytes(), piece)?;
             assert_eq!(rt; answer, status);
             assert_eq!(rt; sink.written(), text.as_bytes());
         }
@@ -64,68 +87,393 @@ fn hooks_run_to_their_printed_endings(rt: HostRuntime) -> Result<(), Fail> {
 }
 
 #[test]
-fn digits_of_either_case_are_right(rt: HostRuntime) -> Result<(), Fail> {
-    let alloc = rt.alloc();
-    let digits = format!(in alloc; "{HEAD}{ACCEPTS}")?;
-    let mut input = Vec::from_slice(alloc, b"hook ")?;
-    for digit in digits.as_bytes() {
-        input.push(digit.to_ascii_uppercase())?;
-    }
-    input.extend_from_slice(b"\nend\n")?;
-    let (answer, sink) = run_in_pieces(alloc, input.as_slice(), 64)?;
-    assert_eq!(rt; answer, Status::Done);
-    assert_eq!(rt;
-        sink.written(),
-        b"accepted 0 - count 4 bound 5\n".as_slice()
-    );
-    Ok(())
-}
-
-#[test]
-fn other_inputs_are_bad(rt: HostRuntime) -> Result<(), Fail> {
-    let alloc = rt.alloc();
-    let inputs = [
-        "",
-        "hook",
-        "hook \nend\n",
-        "hook 0\nend\n",
-        "hook 0g\nend\n",
-        "hook  00\nend\n",
-        "hook 00 \nend\n",
-        "hook 00\r\nend\r\n",
-        "hook 00\n",
-        "hook 00\nend",
-        "hook 00\nend\n\n",
-        "HOOK 00\nend\n",
-        "\nhook 00\nend\n",
-        "hook 00\nhook 00\nend\n",
-    ];
-    for input in inputs {
-        let (answer, sink) = run_in_pieces(alloc, input.as_bytes(), 7)?;
-        assert_eq!(rt; answer, Status::BadInput, "at {input}");
-        assert_eq!(rt; sink.written(), b"bad 0 not_yet\n".as_slice());
-    }
-    Ok(())
-}
-
-#[test]
-fn an_input_has_at_most_378_bytes(rt: HostRuntime) -> Result<(), Fail> {
+fn lines_are_answered_as_their_rules_say(rt: HostRuntime) -> Result<(), Fail> {
     let alloc = rt.alloc();
     let rows = [
-        (368usize, Status::HookRefused),
-        (369, Status::BadInput),
-        (370, Status::BadInput),
-        (390, Status::BadInput),
-        (5000, Status::BadInput),
+        (
+            "replay",
+            "account A 20000000 1\naccount B 10000000 1\nledger 5 100 O\ntx good 12000024000000016140000000000f424068400000000000000a73008114A8314B\ntx good 12000024000000016140000000000f424068400000000000000a73008114A8314B\nend\n",
+            Status::Done,
+            "ledger 5\ntx 1 success fee 10\ntx 2 past_sequence fee 0\nfinal account A 18999990 2 0 0\nfinal account B 11000000 1 0 0\nfinal total 29999990 burnt 10\ndone\n",
+        ),
+        (
+            "replay",
+            "account A 20000000 1\naccount B 10000000 1\nledger 5 100 O\ntx good 12000024000000016140000000000f424068400000000000000a73008114A8314B\ntx good 12000024000000016140000000000f424068400000000000000a73008114A8314B\n",
+            Status::BadInput,
+            "ledger 5\ntx 1 success fee 10\ntx 2 past_sequence fee 0\nbad 6 no_end\n",
+        ),
+        (
+            "replay",
+            "account A 20000000 1\naccount B 10000000 1\nledger 5 100 O\ntx good 2200000000\ntx good 12000024000000016140000000000f424068400000000000000a73008114A8314B\nend\nmore",
+            Status::Done,
+            "ledger 5\ntx 1 malformed fee 0\ntx 2 success fee 10\nfinal account A 18999990 2 0 0\nfinal account B 11000000 1 0 0\nfinal total 29999990 burnt 10\ndone\n",
+        ),
+        (
+            "replay",
+            "account A 20000000 1\naccount B 10000000 1\nledger 5 100 O\ntx good 22000000\ntx good 12000024000000016140000000000f424068400000000000000a73008114A8314B\nend\r\n\0",
+            Status::Done,
+            "ledger 5\ntx 1 unparsed fee 0\ntx 2 success fee 10\nfinal account A 18999990 2 0 0\nfinal account B 11000000 1 0 0\nfinal total 29999990 burnt 10\ndone\n",
+        ),
+        (
+            "replay",
+            "account A 20000000 1\naccount B 10000000 1\nledger 5 100 O\nledger 6 0 O\nend",
+            Status::Done,
+            "ledger 5\nledger 6\nfinal account A 20000000 1 0 0\nfinal account B 10000000 1 0 0\nfinal total 30000000 burnt 0\ndone\n",
+        ),
+        (
+            "replay",
+            "end\n",
+            Status::Done,
+            "final total 0 burnt 0\ndone\n",
+        ),
+        ("replay", "", Status::BadInput, "bad 1 no_end\n"),
+        ("replay", "\r", Status::BadInput, "bad 2 no_end\n"),
+        ("replay", "# only\n\n", Status::BadInput, "bad 3 no_end\n"),
+        (
+            "replay",
+            "account A 1 1\naccount A 1 1\n",
+            Status::BadInput,
+            "bad 2 repeated_account\n",
+        ),
+        ("replay", "hook 00\n", Status::BadInput, "bad 1 bad_word\n"),
+        ("replay", "hook\n", Status::BadInput, "bad 1 bad_word\n"),
+        (
+            "replay",
+            "hook zz\nend\n",
+            Status::BadInput,
+            "bad 1 bad_word\n",
+        ),
+        ("replay", " end\n", Status::BadInput, "bad 1 bad_word\n"),
+        ("replay", "End\n", Status::BadInput, "bad 1 bad_word\n"),
+        ("replay", "ending\n", Status::BadInput, "bad 1 bad_word\n"),
+        ("replay", "end \n", Status::BadInput, "bad 1 bad_shape\n"),
+        ("replay", "account\n", Status::BadInput, "bad 1 bad_shape\n"),
+        (
+            "replay",
+            "account A 01 1\n",
+            Status::BadInput,
+            "bad 1 bad_shape\n",
+        ),
+        (
+            "replay",
+            "account A +1 1\n",
+            Status::BadInput,
+            "bad 1 bad_shape\n",
+        ),
+        (
+            "replay",
+            "account A  1 1\n",
+            Status::BadInput,
+            "bad 1 bad_shape\n",
+        ),
+        (
+            "replay",
+            "account A 1 0\n",
+            Status::BadInput,
+            "bad 1 bad_shape\n",
+        ),
+        (
+            "replay",
+            "account A 1 4294967295\n",
+            Status::BadInput,
+            "bad 1 bad_shape\n",
+        ),
+        (
+            "replay",
+            "account A 100000000000000001 1\n",
+            Status::BadInput,
+            "bad 1 bad_shape\n",
+        ),
+        (
+            "replay",
+            "ledger 0 0 O\n",
+            Status::BadInput,
+            "bad 1 bad_shape\n",
+        ),
+        (
+            "replay",
+            "ledger 4294967001 0 O\n",
+            Status::BadInput,
+            "bad 1 bad_shape\n",
+        ),
+        (
+            "replay",
+            "tx good 0\n",
+            Status::BadInput,
+            "bad 1 bad_shape\n",
+        ),
+        (
+            "replay",
+            "tx good \n",
+            Status::BadInput,
+            "bad 1 bad_shape\n",
+        ),
+        (
+            "replay",
+            "tx fine 00\n",
+            Status::BadInput,
+            "bad 1 bad_shape\n",
+        ),
+        (
+            "replay",
+            "tx good 00\n",
+            Status::BadInput,
+            "bad 1 bad_order\n",
+        ),
+        (
+            "replay",
+            "account A 100000000000000000 1\naccount B 1 1\n",
+            Status::BadInput,
+            "bad 2 total\n",
+        ),
+        (
+            "replay",
+            "account A 100000000000000000 1\naccount A 1 1\n",
+            Status::BadInput,
+            "bad 2 repeated_account\n",
+        ),
+        (
+            "replay",
+            "account A 100000000000000000 4294967294\r\n\naccount B 0 1\naccount A 2 x\n",
+            Status::BadInput,
+            "bad 4 bad_shape\n",
+        ),
+        (
+            "replay",
+            "ledger 4294967000 4294967295 O\nledger 4294967000 0 O\n",
+            Status::BadInput,
+            "ledger 4294967000\nbad 2 bad_order\n",
+        ),
+        (
+            "replay",
+            "ledger 5 0 O\naccount A 1 1\n",
+            Status::BadInput,
+            "ledger 5\nbad 2 bad_order\n",
+        ),
+        (
+            "replay",
+            "ledger 5 0 O\ntx good 00\ntx bad zz\n",
+            Status::BadInput,
+            "ledger 5\ntx 1 unparsed fee 0\nbad 3 bad_shape\n",
+        ),
+        ("run", "", Status::BadInput, "bad 1 no_end\n"),
+        ("run", "hook 00\n", Status::BadInput, "bad 2 no_end\n"),
+        ("run", "end\n", Status::BadInput, "bad 1 bad_order\n"),
+        (
+            "run",
+            "hook 00\nhook 00\n",
+            Status::BadInput,
+            "bad 2 bad_order\n",
+        ),
+        (
+            "run",
+            "hook 0\nend\n",
+            Status::BadInput,
+            "bad 1 bad_shape\n",
+        ),
+        ("run", "hook \nend\n", Status::BadInput, "bad 1 bad_shape\n"),
+        ("run", "hook  00\n", Status::BadInput, "bad 1 bad_shape\n"),
+        ("run", "HOOK 00\n", Status::BadInput, "bad 1 bad_word\n"),
+        (
+            "run",
+            "ledger 5 0 O\n",
+            Status::BadInput,
+            "bad 1 bad_word\n",
+        ),
+        ("run", "tx\n", Status::BadInput, "bad 1 bad_word\n"),
+        ("run", "account A\n", Status::BadInput, "bad 1 bad_word\n"),
+        (
+            "run",
+            "hook 00\nend now\n",
+            Status::BadInput,
+            "bad 2 bad_shape\n",
+        ),
+        (
+            "run",
+            "hook 00\n\nhooks\n",
+            Status::BadInput,
+            "bad 3 bad_word\n",
+        ),
+        (
+            "run",
+            "hook 00\nend\nhook",
+            Status::HookRefused,
+            "refused not yet\n",
+        ),
     ];
-    for (digits, status) in rows {
-        let mut input = Vec::from_slice(alloc, b"hook ")?;
-        for _ in 0..digits {
-            input.push(b'0')?;
+    for (word, input, status, text) in rows {
+        let bytes = spelled(alloc, input)?;
+        let wanted = spelled(alloc, text)?;
+        for piece in [1usize, 7, 64, 4096] {
+            let (answer, sink) = in_pieces(alloc, word, bytes.as_slice(), piece)?;
+            assert_eq!(rt; answer, status, "at {input}");
+            assert_eq!(rt; sink.written(), wanted.as_slice(), "at {input}");
         }
-        input.extend_from_slice(b"\nend\n")?;
-        let (answer, _) = run_in_pieces(alloc, input.as_slice(), 500)?;
-        assert_eq!(rt; answer, status, "at {digits}");
+    }
+    Ok(())
+}
+
+#[test]
+fn transactions_have_the_first_result_that_applies(rt: HostRuntime) -> Result<(), Fail> {
+    let alloc = rt.alloc();
+    let rows = [
+        (
+            "bad 12000024000000056140000000000f424068400000000000000a73008114A8314B",
+            "bad_signature fee 0",
+            "final account A 30000000 5 0 0\nfinal account B 10000000 1 0 0\nfinal total 40000000 burnt 0\n",
+        ),
+        (
+            "good 12000024000000056140000000000f424068400000000000000a73008114C8314B",
+            "no_account fee 0",
+            "final account A 30000000 5 0 0\nfinal account B 10000000 1 0 0\nfinal total 40000000 burnt 0\n",
+        ),
+        (
+            "good 1200002400000004201a000000086140000000000f424068400000000000000a73008114A8314B",
+            "past_sequence fee 0",
+            "final account A 30000000 5 0 0\nfinal account B 10000000 1 0 0\nfinal total 40000000 burnt 0\n",
+        ),
+        (
+            "good 1200002400000006201b000000066140000000000f424068400000000000000a73008114A8314B",
+            "future_sequence fee 0",
+            "final account A 30000000 5 0 0\nfinal account B 10000000 1 0 0\nfinal total 40000000 burnt 0\n",
+        ),
+        (
+            "good 1200002400000005201a00000008201b000000066140000000000f424068400000000000000a73008114A8314B",
+            "early fee 0",
+            "final account A 30000000 5 0 0\nfinal account B 10000000 1 0 0\nfinal total 40000000 burnt 0\n",
+        ),
+        (
+            "good 1200002400000005201a00000007201b000000066140000000000f424068400000000000000973008114A8314B",
+            "expired fee 0",
+            "final account A 30000000 5 0 0\nfinal account B 10000000 1 0 0\nfinal total 40000000 burnt 0\n",
+        ),
+        (
+            "good 12000024000000056140000000000f424068400000000000000973008114A8314B",
+            "fee_too_small fee 0",
+            "final account A 30000000 5 0 0\nfinal account B 10000000 1 0 0\nfinal total 40000000 burnt 0\n",
+        ),
+        (
+            "good 12000024000000056140000000000f4240684000000001c9c38173008114A8314B",
+            "fee_unfunded fee 0",
+            "final account A 30000000 5 0 0\nfinal account B 10000000 1 0 0\nfinal total 40000000 burnt 0\n",
+        ),
+        (
+            "bad 12000024000000006140000000000f424068400000000000000a73008114A8314B",
+            "malformed fee 0",
+            "final account A 30000000 5 0 0\nfinal account B 10000000 1 0 0\nfinal total 40000000 burnt 0\n",
+        ),
+        (
+            "good 12000024ffffffff6140000000000f424068400000000000000a73008114A8314B",
+            "malformed fee 0",
+            "final account A 30000000 5 0 0\nfinal account B 10000000 1 0 0\nfinal total 40000000 burnt 0\n",
+        ),
+        (
+            "good 120000240000000561400000000000000068400000000000000a73008114A8314B",
+            "malformed fee 0",
+            "final account A 30000000 5 0 0\nfinal account B 10000000 1 0 0\nfinal total 40000000 burnt 0\n",
+        ),
+        (
+            "good 12000024000000056140000000000f424068400000000000000a73008114A",
+            "malformed fee 0",
+            "final account A 30000000 5 0 0\nfinal account B 10000000 1 0 0\nfinal total 40000000 burnt 0\n",
+        ),
+        (
+            "good 120016240000000568400000000000000a73008114A",
+            "malformed fee 0",
+            "final account A 30000000 5 0 0\nfinal account B 10000000 1 0 0\nfinal total 40000000 burnt 0\n",
+        ),
+        (
+            "good 120001240000000568400000000000000a73008114A",
+            "malformed fee 0",
+            "final account A 30000000 5 0 0\nfinal account B 10000000 1 0 0\nfinal total 40000000 burnt 0\n",
+        ),
+        (
+            "good 120000240000000561d4838d7ea4c680005555555555555555555555555555555555555555666666666666666666666666666666666666666668400000000000000a73008114A8314B",
+            "unsupported fee 10",
+            "final account A 29999990 6 0 0\nfinal account B 10000000 1 0 0\nfinal total 39999990 burnt 10\n",
+        ),
+        (
+            "good 12000024000000056140000000000f424068400000000000000a69400000000000000173008114A8314B",
+            "unsupported fee 10",
+            "final account A 29999990 6 0 0\nfinal account B 10000000 1 0 0\nfinal total 39999990 burnt 10\n",
+        ),
+        (
+            "good 12000024000000056140000000000f424068400000000000000a73008114A8314A",
+            "redundant fee 10",
+            "final account A 29999990 6 0 0\nfinal account B 10000000 1 0 0\nfinal total 39999990 burnt 10\n",
+        ),
+        (
+            "good 120000240000000561400000000098967f68400000000000000a73008114A8314C",
+            "no_destination fee 10",
+            "final account A 29999990 6 0 0\nfinal account B 10000000 1 0 0\nfinal total 39999990 burnt 10\n",
+        ),
+        (
+            "good 1200002400000005614000000001312cf768400000000000000a73008114A8314C",
+            "unfunded fee 10",
+            "final account A 29999990 6 0 0\nfinal account B 10000000 1 0 0\nfinal total 39999990 burnt 10\n",
+        ),
+        (
+            "good 1200002400000005614000000001312cf768400000000000000a73008114A8314B",
+            "unfunded fee 10",
+            "final account A 29999990 6 0 0\nfinal account B 10000000 1 0 0\nfinal total 39999990 burnt 10\n",
+        ),
+        (
+            "good 1200002400000005201a00000007201b00000007614000000001312cf668400000000000000a73008114A8314B",
+            "success fee 10",
+            "final account A 10000000 6 0 0\nfinal account B 29999990 1 0 0\nfinal total 39999990 burnt 10\n",
+        ),
+        (
+            "good 120000240000000561400000000098968068400000000000000a73008114A8314C",
+            "success fee 10",
+            "final account A 19999990 6 0 0\nfinal account B 10000000 1 0 0\nfinal account C 10000000 7 0 0\nfinal total 39999990 burnt 10\n",
+        ),
+        (
+            "good 1200632400000005684000000001c9c38073008114A",
+            "success fee 30000000",
+            "final account A 0 6 0 0\nfinal account B 10000000 1 0 0\nfinal total 10000000 burnt 30000000\n",
+        ),
+        (
+            "good 120003240000000568400000000000000a73008114A",
+            "success fee 10",
+            "final account A 29999990 6 0 0\nfinal account B 10000000 1 0 0\nfinal total 39999990 burnt 10\n",
+        ),
+    ];
+    for (blob, line, left) in rows {
+        let input = format!(in alloc;
+            "account A 30000000 5\naccount B 10000000 1\nledger 7 0 O\ntx {blob}\nend\n"
+        )?;
+        let text = format!(in alloc; "ledger 7\ntx 1 {line}\n{left}done\n")?;
+        let wanted = spelled(alloc, text.as_str())?;
+        let (answer, sink) = in_pieces(
+            alloc,
+            "replay",
+            spelled(alloc, input.as_str())?.as_slice(),
+            64,
+        )?;
+        assert_eq!(rt; answer, Status::Done, "at {blob}");
+        assert_eq!(rt; sink.written(), wanted.as_slice(), "at {blob}");
+    }
+    Ok(())
+}
+
+#[test]
+fn long_transactions_and_lines_are_told(rt: HostRuntime) -> Result<(), Fail> {
+    let alloc = rt.alloc();
+    let rows = [
+        (1_000_000usize, "tx 1 unparsed fee 0\nbad 3 no_end\n"),
+        (1_000_001, "tx 1 too_long fee 0\nbad 3 no_end\n"),
+        (1_048_572, "tx 1 too_long fee 0\nbad 3 no_end\n"),
+        (1_048_573, "bad 2 line_too_long\n"),
+    ];
+    for (size, text) in rows {
+        let mut input = spelled(alloc, "ledger 7 0 O\ntx good ")?;
+        repeat(&mut input, b'0', size)?;
+        repeat(&mut input, b'0', size)?;
+        input.extend_from_slice(b"\r\n")?;
+        let (answer, sink) = in_pieces(alloc, "replay", input.as_slice(), 100_000)?;
+        assert_eq!(rt; answer, Status::BadInput, "at {size}");
+        let wanted = format!(in alloc; "ledger 7\n{text}")?;
+        assert_eq!(rt; sink.written(), wanted.as_bytes(), "at {size}");
     }
     Ok(())
 }
@@ -133,12 +481,11 @@ fn an_input_has_at_most_378_bytes(rt: HostRuntime) -> Result<(), Fail> {
 #[test]
 fn other_words_print_the_usage_line(rt: HostRuntime) -> Result<(), Fail> {
     let alloc = rt.alloc();
-    let lists: [&[&str]; 7] = [
+    let lists: [&[&str]; 6] = [
         &[],
         &["run", "run"],
         &["--help"],
         &["check"],
-        &["replay"],
         &["demo", "10"],
         &["Run"],
     ];
@@ -170,7 +517,7 @@ fn faults_of_the_outside_are_told(rt: HostRuntime) -> Result<(), Fail> {
     let rows = [
         (1, 99, Status::ReadFault),
         (2, 99, Status::ReadFault),
-        (4, 99, Status::ReadFault),
+        (3, 99, Status::ReadFault),
         (99, 1, Status::WriteFault),
         (99, 99, Status::Done),
     ];
@@ -183,6 +530,57 @@ fn faults_of_the_outside_are_told(rt: HostRuntime) -> Result<(), Fail> {
             status
         );
         assert_eq!(rt; sink.written().is_empty(), status != Status::Done);
+    }
+    Ok(())
+}
+
+#[test]
+fn the_front_of_what_is_due_was_written(rt: HostRuntime) -> Result<(), Fail> {
+    let alloc = rt.alloc();
+    let input = spelled(
+        alloc,
+        "account A 20000000 1\naccount B 10000000 1\nledger 5 100 O\ntx good 12000024000000016140000000000f424068400000000000000a73008114A8314B\ntx good 12000024000000016140000000000f424068400000000000000a73008114A8314B\nend\n",
+    )?;
+    let words = words_of(alloc, &["replay"])?;
+    let rows = [
+        (2u64, 99u64, Status::ReadFault, ""),
+        (5, 99, Status::ReadFault, "ledger 5\n"),
+        (99, 1, Status::WriteFault, ""),
+        (99, 2, Status::WriteFault, "ledger 5\n"),
+        (
+            99,
+            99,
+            Status::Done,
+            "ledger 5\ntx 1 success fee 10\ntx 2 past_sequence fee 0\nfinal account A 18999990 2 0 0\nfinal account B 11000000 1 0 0\nfinal total 29999990 burnt 10\ndone\n",
+        ),
+    ];
+    for (read, write, status, text) in rows {
+        let bytes = Vec::from_slice(alloc, input.as_slice())?;
+        let mut source = MemSource::new(bytes, 64, Vec::from_slice(alloc, &[read])?);
+        let mut sink = MemSink::new(alloc, Vec::from_slice(alloc, &[write])?);
+        assert_eq!(rt;
+            top(alloc, words.as_slice(), &mut source, &mut sink),
+            status
+        );
+        assert_eq!(rt; sink.written(), spelled(alloc, text)?.as_slice());
+    }
+    Ok(())
+}
+
+#[test]
+fn statuses_have_their_numbers(rt: HostRuntime) -> Result<(), Fail> {
+    let rows = [
+        (Status::Done, 0u8),
+        (Status::Usage, 2),
+        (Status::BadInput, 3),
+        (Status::ReadFault, 4),
+        (Status::WriteFault, 5),
+        (Status::NoMemory, 6),
+        (Status::HookRefused, 7),
+        (Status::TooLong, 8),
+    ];
+    for (status, number) in rows {
+        assert_eq!(rt; exit_status(status), number);
     }
     Ok(())
 }

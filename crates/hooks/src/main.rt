@@ -2,7 +2,7 @@
 #![tactic(auto)]
 
 use hk_base::{StdSink, StdSource};
-use hk_replay::{Status, top};
+use hk_replay::{Status, exit_status, top};
 use std::env::Env;
 use std::io::ErrorKind;
 use std::process::ExitCode;
@@ -17,10 +17,10 @@ fn main(rt: HostRuntime) -> ExitCode {
             let mut source = StdSource::new(rt.reader());
             let mut sink = StdSink::new(io::writer(&rt));
             let status = top(rt.alloc(), words.as_slice(), &mut source, &mut sink);
-            ExitCode::from(status.exit_status())
+            ExitCode::from(exit_status(status))
         }
         Err(error) => match error.kind() {
-            ErrorKind::OutOfMemory => ExitCode::from(Status::NoMemory.exit_status()),
+            ErrorKind::OutOfMemory => ExitCode::from(exit_status(Status::NoMemory)),
             _ => ExitCode::from(NO_WORDS),
         },
     }

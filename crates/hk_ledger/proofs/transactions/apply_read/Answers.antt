@@ -1,7 +1,7 @@
 use Rattle.std.proofs.Common.{◌∙◌, sym, subst}
 use Rattle.hk_ledger.specs.Reports.{Reports}
 use Rattle.hk_ledger.specs.Transactions.{applied}
-use Rattle.hk_ledger.specs.declared.reading.Reading.TheVariants as reading
+use Rattle.hk_reading.specs.declared.reading.Reading.TheVariants as reading
 use Rattle.hk_ledger.proofs.Reported.{settled_whole, reported}
 use Rattle.hk_ledger.proofs.transactions.apply_read.Goals as goal
 

@@ -1,0 +1,10 @@
+use Rattle.hk_replay.proofs.Stopping.{replay_answered, replay_stops}
+use Rattle.hk_replay.proofs.program.replay.Goals as goal
+
+pub returns-clause-answered : goal.returns-clause-answered
+returns-clause-answered g c = λ answer bytes told.
+    replay_answered _ bytes c.go_through.result _ _ c.new-replaying.ensures.start (c.go_through.ensures.answered answer bytes told)
+
+pub returns-clause-stops : goal.returns-clause-stops
+returns-clause-stops g c = λ bytes told.
+    replay_stops _ bytes c.go_through.result _ _ _ c.new-replaying.ensures.start (c.go_through.ensures.leaves bytes told)
