@@ -94,33 +94,52 @@ total_flat all done around count after marks tree s = omega arith
 total_flat all (plain op rest) around count after marks tree s =
     omega (arith, stands_counted op (weight all around) tree.0, total_flat all rest around count after marks tree.1 s, spread_node (weight all around) (nodes rest))
 total_flat all (block result body rest) around count after marks tree s =
-    omega (arith, spread_region (weight all around) (nodes body) (nodes rest), turns_both (loops body) (loops rest),
-    total_flat all body around count (End ∷ flat rest after) (around ∷ innermost around (count + length (loops body)) rest marks) tree.0 (stand_left all count (loops body) (loops rest) s),
-    total_flat all rest around (count + length (loops body)) after marks tree.1 (stand_right all count (loops body) (loops rest) s))
+    omega (
+      arith,
+      spread_region (weight all around) (nodes body) (nodes rest),
+      turns_both (loops body) (loops rest),
+      total_flat all body around count (End ∷ flat rest after) (around ∷ innermost around (count + length (loops body)) rest marks) tree.0 (stand_left all count (loops body) (loops rest) s),
+      total_flat all rest around (count + length (loops body)) after marks tree.1 (stand_right all count (loops body) (loops rest) s),
+    )
 total_flat all (loop result body rest) around count after marks tree s =
     let inside : Stand all (count + 1) (loops body ++ loops rest) = stand_tail all count (loop_cost body) (loops body ++ loops rest) s in
     let limit : weight all (Some count) ≡ (loop_cost body).limit = stand_weight all count (loop_cost body) (loops body ++ loops rest) s in
-    omega (arith, spread_node (weight all around) (nodes rest), turns_both (loops body) (loops rest), limit,
-    ap (λ n. n * nodes body) limit, ap (λ n. (loop_cost body).limit * n) (cost_own body), spread_own (loop_cost body).limit (nodes body),
-    total_flat all body (Some count) (count + 1) (End ∷ flat rest after) (Some count ∷ innermost around (count + 1 + length (loops body)) rest marks) tree.0
-      (stand_left all (count + 1) (loops body) (loops rest) inside),
-    total_flat all rest around (count + 1 + length (loops body)) after marks tree.1 (stand_right all (count + 1) (loops body) (loops rest) inside))
+    omega (
+      arith,
+      spread_node (weight all around) (nodes rest),
+      turns_both (loops body) (loops rest),
+      limit,
+      ap (λ n. n * nodes body) limit,
+      ap (λ n. (loop_cost body).limit * n) (cost_own body),
+      spread_own (loop_cost body).limit (nodes body),
+      total_flat all body (Some count) (count + 1) (End ∷ flat rest after) (Some count ∷ innermost around (count + 1 + length (loops body)) rest marks) tree.0
+          (stand_left all (count + 1) (loops body) (loops rest) inside),
+      total_flat all rest around (count + 1 + length (loops body)) after marks tree.1 (stand_right all (count + 1) (loops body) (loops rest) inside),
+    )
 total_flat all (if_then result body rest) around count after marks tree s =
-    omega (arith, spread_region (weight all around) (nodes body) (nodes rest), turns_both (loops body) (loops rest),
-    total_flat all body around count (End ∷ flat rest after) (around ∷ innermost around (count + length (loops body)) rest marks) tree.0 (stand_left all count (loops body) (loops rest) s),
-    total_flat all rest around (count + length (loops body)) after marks tree.1 (stand_right all count (loops body) (loops rest) s))
+    omega (
+      arith,
+      spread_region (weight all around) (nodes body) (nodes rest),
+      turns_both (loops body) (loops rest),
+      total_flat all body around count (End ∷ flat rest after) (around ∷ innermost around (count + length (loops body)) rest marks) tree.0 (stand_left all count (loops body) (loops rest) s),
+      total_flat all rest around (count + length (loops body)) after marks tree.1 (stand_right all count (loops body) (loops rest) s),
+    )
 total_flat all (if_else result first second rest) around count after marks tree s =
     let arms : Stand all count (loops first ++ loops second) = stand_left all count (loops first ++ loops second) (loops rest) s in
     let behind_arms : Stand all (count + length (loops first ++ loops second)) (loops rest) = stand_right all count (loops first ++ loops second) (loops rest) s in
     let n : count + length (loops first ++ loops second) ≡ count + length (loops first) + length (loops second) = omega (arith, length-append (loops first) (loops second)) in
-    omega (arith, spread_three (weight all around) (nodes first) (nodes second) (nodes rest),
-    turns_both (loops first) (loops second), turns_both (loops first ++ loops second) (loops rest),
-    total_flat all first around count (Else ∷ flat second (End ∷ flat rest after))
-      (around ∷ innermost around (count + length (loops first)) second (around ∷ innermost around (count + length (loops first) + length (loops second)) rest marks)) tree.0
-      (stand_left all count (loops first) (loops second) arms),
-    total_flat all second around (count + length (loops first)) (End ∷ flat rest after)
-      (around ∷ innermost around (count + length (loops first) + length (loops second)) rest marks) tree.1 (stand_right all count (loops first) (loops second) arms),
-    total_flat all rest around (count + length (loops first) + length (loops second)) after marks tree.2 (subst (λ k. Stand all k (loops rest)) n behind_arms))
+    omega (
+      arith,
+      spread_three (weight all around) (nodes first) (nodes second) (nodes rest),
+      turns_both (loops first) (loops second),
+      turns_both (loops first ++ loops second) (loops rest),
+      total_flat all first around count (Else ∷ flat second (End ∷ flat rest after))
+          (around ∷ innermost around (count + length (loops first)) second (around ∷ innermost around (count + length (loops first) + length (loops second)) rest marks)) tree.0
+          (stand_left all count (loops first) (loops second) arms),
+      total_flat all second around (count + length (loops first)) (End ∷ flat rest after)
+          (around ∷ innermost around (count + length (loops first) + length (loops second)) rest marks) tree.1 (stand_right all count (loops first) (loops second) arms),
+      total_flat all rest around (count + length (loops first) + length (loops second)) after marks tree.2 (subst (λ k. Stand all k (loops rest)) n behind_arms),
+    )
 
 -- ---- a whole body
 
@@ -163,9 +182,12 @@ same_last (guard ∷ guards) [] e = absurd (cc e)
 
 pub body_bound : (ops : List Op) (body : Sequence) → Reads ops body → total (loop_guards body 0) ops (innermost None 0 body (None ∷ [])) + last_turns (loop_guards body 0) ≡ bound body
 body_bound ops body reads =
-    omega (arith, ap (λ os. total (loop_guards body 0) os (innermost None 0 body (None ∷ []))) reads.instructions,
-    total_flat (loop_guards body 0) body None 0 (End ∷ []) (None ∷ []) reads.tree (all_stand body 0),
-    same_last (loop_guards body 0) (loops body) (same_limits body 0))
+    omega (
+      arith,
+      ap (λ os. total (loop_guards body 0) os (innermost None 0 body (None ∷ []))) reads.instructions,
+      total_flat (loop_guards body 0) body None 0 (End ∷ []) (None ∷ []) reads.tree (all_stand body 0),
+      same_last (loop_guards body 0) (loops body) (same_limits body 0),
+    )
 
 -- ---- the loop over the instructions
 
@@ -199,9 +221,9 @@ pub adding_next : (loops : List LoopGuard) (ops : List Op) (marks : List (Option
     → added ≡ counted op (weight loops (inner_of (slice_get marks i))) → added < 4294967296 → Adding loops ops marks i sum → Adding loops ops marks (i + 1) (sum + added)
 adding_next loops ops marks i sum added op h e is few before =
     let here : total loops (drop i ops) (drop i marks) ≡ added + total loops (drop (i + 1) ops) (drop (i + 1) marks) =
-        ap (λ os. total loops os (drop i marks)) (at_op ops i op h e)
-        ∙ ap₂ (λ x ms. counted op (weight loops x) + total loops (drop (i + 1) ops) ms) (first_dropped marks i) (others_dropped marks i)
-        ∙ ap (λ n. n + total loops (drop (i + 1) ops) (drop (i + 1) marks)) (sym is) in
+    ap (λ os. total loops os (drop i marks)) (at_op ops i op h e)
+    ∙ ap₂ (λ x ms. counted op (weight loops x) + total loops (drop (i + 1) ops) ms) (first_dropped marks i) (others_dropped marks i)
+    ∙ ap (λ n. n + total loops (drop (i + 1) ops) (drop (i + 1) marks)) (sym is) in
     record { whole = omega (arith, here, before.whole); small = omega (arith, few, before.small) }
 
 pub adding_all : (loops : List LoopGuard) (ops : List Op) (marks : List (Option ℕ)) (i sum : ℕ) → length ops ≤ i → Adding loops ops marks i sum → sum ≡ total loops ops marks
@@ -225,7 +247,7 @@ pub guards_at : (functions : List FunctionGuards) (codes : List Code) (i : ℕ) 
 guards_at functions codes i guards code e f g =
     let here : slice_get (map (λ x. Some x) functions) i ≡ Some (Some guards) = get_mapped (λ x. Some x) functions i ∙ ap (option_map (λ x. Some x)) f in
     let there : slice_get (code_guards codes) i ≡ Some (option_map body_guards (tree_of code.ops)) =
-        get_mapped (λ c. option_map body_guards (tree_of c.ops)) codes i ∙ ap (option_map (λ c. option_map body_guards (tree_of c.ops))) g in
+    get_mapped (λ c. option_map body_guards (tree_of c.ops)) codes i ∙ ap (option_map (λ c. option_map body_guards (tree_of c.ops))) g in
     same (Some guards) (option_map body_guards (tree_of code.ops)) (sym here ∙ ap (λ xs. slice_get xs i) e ∙ there)
   where
     same : (x y : Option FunctionGuards) → Some x ≡ Some y → x ≡ y
@@ -239,11 +261,11 @@ whole_bound m guards func n code found codes functions ops sound kept less same_
     let many : length codes ≡ length m.codes = ap length same_codes in
     let each : length functions ≡ length m.codes = ap length same_functions ∙ same_number guards.functions m.codes kept in
     let at_code : slice_get m.codes func ≡ Some code =
-        ap (λ xs. slice_get xs func) (sym same_codes) ∙ slice_get_read codes (length codes) func code refl (omega (arith, less, many)) is_code in
+    ap (λ xs. slice_get xs func) (sym same_codes) ∙ slice_get_read codes (length codes) func code refl (omega (arith, less, many)) is_code in
     let at_guards : slice_get guards.functions func ≡ Some found =
-        ap (λ xs. slice_get xs func) (sym same_functions) ∙ slice_get_read functions (length functions) func found refl (omega (arith, less, each)) is_found in
+    ap (λ xs. slice_get xs func) (sym same_functions) ∙ slice_get_read functions (length functions) func found refl (omega (arith, less, each)) is_found in
     let nested : IsNested code.ops =
-        (each_at IsSoundBody codes func code (omega (arith, less, many)) is_code (subst (Each IsSoundBody) (sym same_codes) sound.codes.each)).ops.nested in
+    (each_at IsSoundBody codes func code (omega (arith, less, many)) is_code (subst (Each IsSoundBody) (sym same_codes) sound.codes.each)).ops.nested in
     let tree : tree_of code.ops ≡ Some nested.0 = found_tree code.ops nested.0 nested.1 in
     let same : found ≡ body_guards nested.0 = some_is found (body_guards nested.0) (guards_at guards.functions m.codes func found code kept at_guards at_code ∙ ap (option_map body_guards) tree) in
     let is : n ≡ bound nested.0 = e ∙ ap₂ (λ g os. total g.loops os g.innermost + last_turns g.loops) same same_ops ∙ body_bound code.ops nested.0 nested.1 in

@@ -2,6 +2,15 @@
 #![tactic(auto)]
 
 mod bounding;
+mod checked;
+mod checking;
+mod fault;
 mod weighing;
 
 pub use bounding::bound;
+pub use checked::Checked;
+pub use checking::check;
+pub use fault::{CheckFault, Export};
+
+#[cfg(test)]
+mod tests;
