@@ -1,9 +1,9 @@
 -- A replay that is done prints what the ledger machine prints for the lines of its input, so no drop comes or goes.
-use Rattle.std.proofs.Common.{◌≡◌, ℕ, ◌+◌, nat_le, Bool, true, false, if◌then◌else◌, List, [], ◌∷◌, ◌++◌, length, take, Option, Some, None, Result, Ok, Err, ap, sym, subst, ◌∙◌, refl, append_assoc, append-nil}
+use Rattle.std.proofs.Common.{◌≡◌, ℕ, ◌+◌, nat_le, Bool, true, false, if◌then◌else◌, List, [], ◌∷◌, ◌++◌, length, take, Option, Some, Result, Ok, Err, ap, sym, subst, ◌∙◌, refl, append_assoc, append-nil}
 use Rattle.std.specs.Option.{option_map}
 use Rattle.std.specs.Io.KnownBytes.{Appends}
 use Rattle.hk_lines.specs.Cut.{Cut, behind, whole, cut, trim, is_skipped}
-use Rattle.hk_lines.specs.Given.{Close, opened, ended, full, Given, after, bad, after_turn, given_line, given_last, given_from, close_of}
+use Rattle.hk_lines.specs.Given.{Close, opened, ended, full, Given, bad, after_turn, given_line, given_last, given_from, close_of}
 use Rattle.hk_lines.specs.InputForms.{line_read}
 use Rattle.hk_lines.specs.Numbers.{longest_line, endless_line, longest_input}
 use Rattle.hk_lines.specs.OutputForms.{line_text}
@@ -19,7 +19,7 @@ use Rattle.hk_loop.specs.Answers.{IsAnswer}
 use Rattle.hk_ledger.specs.Machine.{State, start, Step, goes, ends, breaks, step}
 use Rattle.hk_ledger.specs.Native.{native}
 use Rattle.hk_ledger.specs.NativeLaws.{native_sum}
-use Rattle.hk_ledger.specs.Replays.{AddsUp, continued, replayed, opened_with}
+use Rattle.hk_ledger.specs.Replays.{continued, replayed}
 use Rattle.hk_ledger.proofs.Conserving.{conserved as ledger_conserved}
 use Rattle.hk_replay.specs.declared.command.Command.TheVariants.{Replay}
 use Rattle.hk_replay.specs.Conserved.{read_before, line_before, last_lines, cut_lines, input_lines, Conserved}

@@ -1,13 +1,12 @@
 -- The commands are their machines, going through the lines.
-use Rattle.std.proofs.Common.{◌≡◌, ℕ, suc, zero, ◌+◌, Bool, true, false, ◌||◌, not, nat_lt, nat_le, cond, List, [], ◌∷◌, ◌++◌, Option, Some, None, is_some, Result, Ok, Err, ap, sym, subst, ◌∙◌, refl, arith}
+use Rattle.std.proofs.Common.{◌≡◌, ℕ, suc, zero, ◌+◌, Bool, true, false, ◌||◌, not, nat_lt, nat_le, cond, List, [], ◌∷◌, Option, Some, None, is_some, Result, Ok, Err, ap, sym, subst, ◌∙◌, refl, arith}
 use Rattle.std.specs.Str.{bytes_eq}
 use Rattle.std.specs.FinMap.{get, get-empty, get-insert}
 use Rattle.std.proofs.lemmas.Bool.{ltb-false, leb-false}
 use Rattle.std.proofs.lemmas.Map.Text.{is_eq-slice_cmp}
 use Rattle.hk_base.specs.declared.ids.AccountId.{AccountId}
 use Rattle.hk_reading.specs.Reading.{reading}
-use Rattle.hk_lines.specs.Given.{Close, Turn, given}
-use Rattle.hk_lines.specs.Lines.{Read, takes, lines, Machine, fold_lines, turned, turn_of}
+use Rattle.hk_lines.specs.Lines.{takes, turned, turn_of}
 use Rattle.hk_lines.proofs.Fusing.{fuses_law}
 use Rattle.hk_lines.specs.declared.input_line.InputLine.{InputLine}
 use Rattle.hk_lines.specs.declared.input_line.InputLine.TheVariants.{Account, Ledger, Tx, Hook, End}
@@ -15,14 +14,12 @@ use Rattle.hk_lines.specs.declared.line_fault.LineFault.{LineFault}
 use Rattle.hk_lines.specs.declared.rule.Rule.{Rule}
 use Rattle.hk_lines.specs.declared.rule.Rule.TheVariants.{BadOrder, RepeatedAccount, Total}
 use Rattle.hk_lines.specs.declared.verdict.Verdict.{Verdict}
-use Rattle.hk_lines.specs.declared.result_name.ResultName.{ResultName}
 use Rattle.hk_lines.specs.declared.output_line.OutputLine.{OutputLine}
 use Rattle.hk_reading.specs.declared.reading.Reading.{Reading}
 use Rattle.hk_reading.specs.declared.reading.Reading.TheVariants as reads
 use Rattle.hk_ledger.specs.declared.entry.Entry.TheVariants as entry
 use Rattle.hk_ledger.specs.declared.key.Key.TheVariants as key
-use Rattle.hk_ledger.specs.declared.ledger.Header.{Header}
-use Rattle.hk_ledger.specs.Balances.{balances, balances-empty}
+use Rattle.hk_ledger.specs.Balances.{balances-empty}
 use Rattle.hk_ledger.specs.Conserved.{sum_new}
 use Rattle.hk_ledger.specs.Holdings.{as_holding, holding_at, with_holding}
 use Rattle.hk_ledger.specs.Keys.{key_cmp, keys_total}
@@ -30,7 +27,7 @@ use Rattle.hk_ledger.specs.Ledger.{LedgerValue}
 use Rattle.hk_ledger.specs.Machine.{State, start, step, opening_total, account_rules, ledger_rules, tx_rules, unless_broken, goes}
 use Rattle.hk_ledger.specs.Native.{native}
 use Rattle.hk_ledger.specs.Rows.{first_row, none_applies}
-use Rattle.hk_ledger.specs.Rules.{Rules, Effect, keeps, fails}
+use Rattle.hk_ledger.specs.Rules.{keeps, fails}
 use Rattle.hk_ledger.specs.Transactions.{applied, goes_on, settled, refusal_rows, paid}
 use Rattle.hk_ledger.specs.World.{most_drops, with_account}
 use Rattle.hk_ledger.proofs.Whole.{none_of}

@@ -1,5 +1,5 @@
 -- Two commands that go together line by line give the same.
-use Rattle.std.proofs.Common.{◌≡◌, ℕ, ◌+◌, nat_le, Bool, true, false, if◌then◌else◌, List, [], ◌∷◌, length, take, Some, refl, ap, sym, ◌∙◌}
+use Rattle.std.proofs.Common.{◌≡◌, ℕ, ◌+◌, nat_le, Bool, true, false, if◌then◌else◌, List, [], ◌∷◌, length, take, Some, refl, ap, ◌∙◌}
 use Rattle.hk_lines.specs.Cut.{Cut, behind, whole, cut, trim, is_skipped}
 use Rattle.hk_lines.specs.Given.{Close, opened, ended, full, Given, after, bad, Turn, goes, ends, wrong, after_turn, given_line, given_last, given_from, given, close_of}
 use Rattle.hk_lines.specs.Numbers.{longest_line, endless_line}
