@@ -127,7 +127,7 @@ sums bytes text before now s wrote =
     let same : text ≡ texts adds.front ++ (line_text (shown.FinalTotal adds.balances adds.burnt) ++ line_text shown.Done) =
     s.told ∙ ap texts adds.whole ∙ ending adds.front adds.balances adds.burnt in
     record {
-      front = texts adds.front;
+      front = adds.front;
       balances = adds.balances;
       burnt = adds.burnt;
       wrote = subst (λ t. Appends before now t) same wrote;

@@ -8,8 +8,10 @@ use Rattle.hk_lines.specs.OutputForms.{line_text}
 use Rattle.hk_lines.specs.declared.input_line.InputLine.{InputLine}
 use Rattle.hk_lines.specs.declared.input_line.InputLine.TheVariants.{End}
 use Rattle.hk_lines.specs.declared.line_fault.LineFault.{LineFault}
+use Rattle.hk_lines.specs.declared.output_line.OutputLine.{OutputLine}
 use Rattle.hk_lines.specs.declared.output_line.OutputLine.TheVariants.{FinalTotal, Done}
 use Rattle.hk_ledger.specs.Replays.{opened_with}
+use Rattle.hk_replay.specs.Replaying.{texts}
 
 -- a line that was read, and those behind it, unless it is the end
 abbrev pub read_before : Result InputLine LineFault → List InputLine → List InputLine
@@ -33,10 +35,10 @@ cut_lines (behind bytes) = last_lines bytes
 abbrev pub input_lines : List ℕ → List InputLine
 input_lines bytes = cut_lines (cut (take longest_input bytes))
 
--- the text that was written ends with two numbers that add up to the balances of the input's accounts
+-- lines were written, and behind them two numbers that add up to the balances of the input's accounts
 pub record Conserved (bytes : List ℕ) (before now : Option (List ℕ)) : Type 0 where
-  pub front : List ℕ
+  pub front : List OutputLine
   pub balances : ℕ
   pub burnt : ℕ
-  pub wrote : Appends before now (front ++ (line_text (FinalTotal balances burnt) ++ line_text Done))
+  pub wrote : Appends before now (texts front ++ (line_text (FinalTotal balances burnt) ++ line_text Done))
   pub sum : balances + burnt ≡ opened_with (input_lines bytes)
