@@ -1,23 +1,22 @@
 -- Words and an input have one text and one status.
-use Rattle.std.proofs.Common.{◌≡◌, ℕ, ◌⊎◌, inl, inr, List, [], ◌∷◌, ◌++◌, Option, Some, None, ap, sym, subst, ◌∙◌, refl}
+use Rattle.std.proofs.Common.{◌≡◌, ℕ, ◌⊎◌, inl, inr, List, Option, Some, None, ap, sym, subst, ◌∙◌, refl}
 use Rattle.hk_base.specs.declared.outcome.Outcome.{Outcome}
 use Rattle.wa_ops.specs.Sequences.{Sequence, Reads}
 use Rattle.wa_ops.proofs.Parsing.{one_tree}
-use Rattle.wa_ops.specs.declared.op.Op.{Op}
 use Rattle.wa_exec.specs.Machine.{Ends}
 use Rattle.wa_exec.specs.Bound.{bound}
-use Rattle.wa_exec.specs.Taken.{IsTaken, hook_context, hook_start}
+use Rattle.wa_exec.specs.Taken.{hook_context, hook_start}
 use Rattle.wa_exec.proofs.OneEnding.{one_ending}
 use Rattle.wa_exec.proofs.OneTaken.{one_taken}
 use Rattle.hk_lines.specs.Given.{ended}
 use Rattle.hk_lines.specs.OutputForms.{line_text}
 use Rattle.hk_lines.specs.declared.output_line.OutputLine.TheVariants as printed
 use Rattle.hk_lines.specs.declared.status.Status.{Status}
-use Rattle.hk_lines.specs.declared.status.Status.TheVariants.{Done, Usage, BadInput, ReadFault, WriteFault, NoMemory, HookRefused, TooLong}
+use Rattle.hk_lines.specs.declared.status.Status.TheVariants.{Done, ReadFault, WriteFault, NoMemory, HookRefused}
 use Rattle.hk_loop.specs.Answers.{IsAnswer}
 use Rattle.hk_replay.specs.declared.command.Command.{Command}
 use Rattle.hk_replay.specs.declared.command.Command.TheVariants.{Run, Replay, Other}
-use Rattle.hk_replay.specs.Answers.{IsLineOf, IsRunOf, IsReply, Replies, hook_lines, replay_lines, GivesFor, Gives, command_of, IsSame, OneAnswer}
+use Rattle.hk_replay.specs.Answers.{IsLineOf, IsRunOf, IsReply, Replies, hook_lines, replay_lines, GivesFor, command_of, IsSame, OneAnswer}
 use Rattle.hk_replay.specs.Moved.{Answered}
 
 abbrev shown : Outcome → ℕ → ℕ → List ℕ

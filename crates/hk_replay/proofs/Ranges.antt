@@ -1,10 +1,10 @@
 -- A line that was read opens no account with more drops than there can be.
-use Rattle.std.proofs.Common.{◌≡◌, ℕ, ◌≤◌, ◌⊎◌, inl, inr, Bool, true, false, List, [], ◌∷◌, length, Result, Ok, Err, IfOk, refl, subst, sym, ◌∙◌, if◌then◌else◌, nat_le}
+use Rattle.std.proofs.Common.{◌≡◌, ℕ, ◌⊎◌, inl, inr, Bool, true, false, List, length, Result, Ok, Err, IfOk, refl, subst, sym, if◌then◌else◌, nat_le}
 use Rattle.hk_lines.specs.declared.input_line.InputLine.{InputLine}
 use Rattle.hk_lines.specs.declared.input_line.InputLine.TheVariants.{Account, Ledger, Tx, Hook, End}
 use Rattle.hk_lines.specs.declared.line_fault.LineFault.{LineFault}
 use Rattle.hk_lines.specs.declared.line_fault.LineFault.TheVariants.{TooLong, NoMemory}
-use Rattle.hk_lines.specs.InputForms.{line_read, words_read}
+use Rattle.hk_lines.specs.InputForms.{words_read}
 use Rattle.hk_lines.specs.Numbers.{longest_line}
 use Rattle.hk_lines.specs.Words.{words_of}
 use Rattle.hk_lines.specs.Spelling.{ReadsSpelled, Spells}

@@ -1,10 +1,10 @@
 -- What was taken and written when a command answered.
-use Rattle.std.proofs.Common.{◌≡◌, ◌≢◌, ℕ, ◌≤◌, ◌⊎◌, inl, inr, List, [], ◌∷◌, ◌++◌, length, Option, Some, None, ap, sym, subst, ◌∙◌, refl, arith, append-nil, length-append}
+use Rattle.std.proofs.Common.{◌≡◌, ◌≢◌, ℕ, ◌⊎◌, inl, inr, List, [], ◌++◌, length, Option, Some, None, ap, sym, subst, ◌∙◌, refl, arith, append-nil, length-append}
 use Rattle.std.specs.Io.KnownBytes.{Appends}
-use Rattle.hk_lines.specs.Given.{Close, opened, ended, Given, given, gives, so_far, IsFront}
+use Rattle.hk_lines.specs.Given.{Close, opened, ended, Given, gives, IsFront}
 use Rattle.hk_lines.specs.Numbers.{longest_input}
 use Rattle.hk_lines.specs.declared.status.Status.{Status}
-use Rattle.hk_lines.specs.declared.status.Status.TheVariants.{Done, Usage, BadInput, ReadFault, WriteFault, NoMemory, HookRefused, TooLong}
+use Rattle.hk_lines.specs.declared.status.Status.TheVariants.{Done, Usage, ReadFault, WriteFault, NoMemory, TooLong}
 use Rattle.hk_loop.specs.Answers.{IsAnswer, WroteFront, Gave}
 use Rattle.hk_loop.specs.Through.{close_at, Leaves}
 use Rattle.hk_loop.proofs.Exits.{wrote_front}
@@ -14,7 +14,7 @@ use Rattle.hk_replay.specs.declared.command.Command.{Command}
 use Rattle.hk_replay.specs.declared.command.Command.TheVariants.{Run, Replay, Other}
 use Rattle.hk_replay.specs.HookLines.{hook_turn}
 use Rattle.hk_replay.specs.Replaying.{replay_turn}
-use Rattle.hk_replay.specs.Answers.{IsReply, Replies, hook_lines, replay_lines, GivesFor, usage_line}
+use Rattle.hk_replay.specs.Answers.{IsReply, Replies, hook_lines, replay_lines, usage_line}
 use Rattle.hk_replay.specs.Moved.{Answered, RepliesDue, DueFor, WroteDue, Stops, Tells, TellsUsage}
 
 -- ---- replay

@@ -1,5 +1,5 @@
 -- What the program prints and answers, by its words and the bytes of its input (this project's own).
-use Rattle.std.specs.Prelude.{ℕ, ◌≡◌, ◌≢◌, List, [], ◌∷◌, ◌++◌, codes, if◌then◌else◌, Option, Some, None}
+use Rattle.std.specs.Prelude.{ℕ, ◌≡◌, List, [], ◌∷◌, ◌++◌, codes, if◌then◌else◌, Option, Some, None}
 use Rattle.std.specs.Str.{bytes_eq}
 use Rattle.hk_base.specs.declared.outcome.Outcome.{Outcome}
 use Rattle.wa_ops.specs.declared.op.Op.{Op}

@@ -1,6 +1,7 @@
 -- The lines of `check` and `run`: one hook, and the end (this project's own).
-use Rattle.std.specs.Prelude.{ℕ, List, [], Option, Some, None, Result, Ok, Err}
-use Rattle.hk_lines.specs.Given.{Turn, goes, ends, wrong}
+use Rattle.std.specs.Prelude.{◌≡◌, ℕ, Bool, true, false, List, [], Option, Some, None, Result, Ok, Err}
+use Rattle.hk_lines.specs.Given.{Close, Turn, goes, ends, wrong, given}
+use Rattle.hk_lines.specs.Lines.{Read, takes, closes, refuses, Machine, lines, fold_lines}
 use Rattle.hk_lines.specs.declared.input_line.InputLine.{InputLine}
 use Rattle.hk_lines.specs.declared.input_line.InputLine.TheVariants.{Hook, End}
 use Rattle.hk_lines.specs.declared.line_fault.LineFault.{LineFault}
@@ -23,3 +24,31 @@ hook_read held (Err fault) = wrong (rule_of fault)
 -- what a line does, by the code that is held
 abbrev pub hook_turn : Option (List ℕ) → List ℕ → Turn (Option (List ℕ))
 hook_turn held line = hook_read held (read_if (is_hook_line line) line)
+
+-- a line of one of the two forms, by whether a hook came before; a right line is the hook's code
+abbrev pub hook_ordered : Bool → InputLine → Read Bool (List ℕ)
+hook_ordered false (Hook code) = takes true code
+hook_ordered true (Hook code) = refuses BadOrder
+hook_ordered false End = refuses BadOrder
+hook_ordered true End = closes
+hook_ordered came other = refuses BadWord
+
+abbrev pub hook_ordered_read : Bool → Result InputLine LineFault → Read Bool (List ℕ)
+hook_ordered_read came (Ok line) = hook_ordered came line
+hook_ordered_read came (Err fault) = refuses (rule_of fault)
+
+abbrev pub hook_line : Bool → List ℕ → Read Bool (List ℕ)
+hook_line came line = hook_ordered_read came (read_if (is_hook_line line) line)
+
+-- the machine keeps the last code, and gives it at the end
+abbrev pub hook_machine : Machine (List ℕ) (List ℕ)
+hook_machine = record {
+  step = λ held code. (code, []);
+  final_text = λ held. held;
+  final_status = λ held. Done;
+}
+
+-- reading a hook is the machine, going through the lines
+abbrev pub HookFolds : Type 0
+HookFolds = (limit : ℕ) (bytes : List ℕ) (close : Close) →
+    given hook_turn limit None bytes close ≡ fold_lines hook_machine [] (lines hook_line limit false bytes close)

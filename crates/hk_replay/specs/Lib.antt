@@ -3,3 +3,5 @@ pub mod HookLines
 pub mod Replaying
 pub mod Answers
 pub mod Moved
+pub mod Conserved
+pub mod ReplayLines

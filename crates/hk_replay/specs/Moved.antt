@@ -1,5 +1,5 @@
 -- What was taken from a source and written to a sink when a call of the program ended (this project's own).
-use Rattle.std.specs.Prelude.{ℕ, ◌≡◌, ◌≤◌, ◌⊎◌, List, [], ◌∷◌, ◌++◌, length, Option, Some, None}
+use Rattle.std.specs.Prelude.{ℕ, ◌≡◌, ◌≤◌, ◌⊎◌, List, [], ◌++◌, length, Option, Some, None}
 use Rattle.std.specs.Io.KnownBytes.{Appends}
 use Rattle.hk_lines.specs.Given.{Close, opened, IsFront}
 use Rattle.hk_lines.specs.Numbers.{longest_input}

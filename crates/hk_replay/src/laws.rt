@@ -1,6 +1,18 @@
 ghost use Rattle.hk_replay.specs.Answers.{OneAnswer};
+ghost use Rattle.hk_replay.specs.HookLines.{HookFolds};
+ghost use Rattle.hk_replay.specs.ReplayLines.{ReplayFolds};
 
 /// The law that words and an input have one text and one status.
 pub fn one_answer()
     ensures law { OneAnswer }
+{}
+
+/// A replay is the lines of its input, with the ledger machine folded over them.
+pub fn replay_folds()
+    ensures law { ReplayFolds }
+{}
+
+/// What the lines with one hook give is these lines, with a machine folded over them that keeps the code.
+pub fn hook_folds()
+    ensures law { HookFolds }
 {}

@@ -13,6 +13,6 @@ mod tests;
 mod words;
 
 pub use hk_lines::Status;
-pub use laws::one_answer;
+pub use laws::{hook_folds, one_answer, replay_folds};
 pub use program::top;
 pub use status::exit_status;

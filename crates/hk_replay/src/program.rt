@@ -4,6 +4,7 @@ ghost use Rattle.std.specs.Io.KnownBytes.{Appends};
 ghost use Rattle.hk_base.specs.Outside.{Rose};
 ghost use Rattle.hk_loop.specs.Answers.{IsAnswer};
 ghost use Rattle.hk_replay.specs.Answers.{command_of, Gives, IsReply};
+ghost use Rattle.hk_replay.specs.Conserved.{Conserved};
 ghost use Rattle.hk_replay.specs.Moved.{Answered, Stops, TellsUsage, Tells};
 
 use crate::command::{Command, command_of};
@@ -38,6 +39,10 @@ pub fn top<S: Source, K: Sink>(
         (bytes text : List ℕ) (status : Status) → S.left source.old ≡ Some bytes →
         Gives (map string_bytes words.now) bytes text status → (result ≡ status) ⊎ (result ≡ Status.NoMemory) }
 
+    // No drop comes or goes in a replay that is done: its last two numbers add up to the balances of the input's accounts.
+    ensures conserved { result ≡ Status.Done → command_of (map string_bytes words.now) ≡ Command.Replay →
+        (bytes : List ℕ) → S.left source.old ≡ Some bytes → Conserved bytes (K.written sink.old) (K.written sink.new) }
+
     // Words that are no command get the usage line, and nothing is taken.
     ensures usage { command_of (map string_bytes words.now) ≡ Command.Other → TellsUsage result (K.written sink.old) (K.written sink.new) }
     ensures untouched { command_of (map string_bytes words.now) ≡ Command.Other → source.new ≡ source.old }
@@ -68,6 +73,8 @@ pub fn top<S: Source, K: Sink>(
 fn replay<S: Source, K: Sink>(alloc: Global, source: &mut S, sink: &mut K) -> Status
     ensures answered { IsAnswer result → (bytes : List ℕ) → S.left source.old ≡ Some bytes →
         Answered Command.Replay bytes result (K.written sink.old) (K.written sink.new) }
+    ensures conserved { result ≡ Status.Done → (bytes : List ℕ) → S.left source.old ≡ Some bytes →
+        Conserved bytes (K.written sink.old) (K.written sink.new) }
     ensures no_usage { result ≢ Status.Usage }
     ensures stops { (bytes : List ℕ) → S.left source.old ≡ Some bytes →
         Stops Command.Replay bytes result (S.left source.new) (K.written sink.old) (K.written sink.new) }

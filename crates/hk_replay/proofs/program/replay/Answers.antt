@@ -1,3 +1,4 @@
+use Rattle.hk_replay.proofs.Conserving.{done_conserved}
 use Rattle.hk_replay.proofs.Stopping.{replay_answered, replay_stops}
 use Rattle.hk_replay.proofs.program.replay.Goals as goal
 
@@ -8,3 +9,8 @@ returns-clause-answered g c = λ answer bytes told.
 pub returns-clause-stops : goal.returns-clause-stops
 returns-clause-stops g c = λ bytes told.
     replay_stops _ bytes c.go_through.result _ _ _ c.new-replaying.ensures.start (c.go_through.ensures.leaves bytes told)
+
+pub returns-clause-conserved : goal.returns-clause-conserved
+returns-clause-conserved g c = λ done bytes told.
+    done_conserved bytes c.go_through.result _ _ done
+    (λ answer. replay_answered _ bytes c.go_through.result _ _ c.new-replaying.ensures.start (c.go_through.ensures.answered answer bytes told))

@@ -1,0 +1,5 @@
+use Rattle.hk_replay.proofs.Folding.{hook_folds}
+use Rattle.hk_replay.proofs.laws.hook_folds.Goals as goal
+
+pub returns : goal.returns
+returns c = record { law = hook_folds }
