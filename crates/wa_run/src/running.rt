@@ -1,6 +1,7 @@
 //! A run under way, and the instructions that open, close and leave regions.
 ghost use Rattle.std.specs.Prelude.{ℕ, ◌+◌, ◌<◌, ◌≤◌, ◌≡◌, ◌^◌, length, None, Some};
 ghost use Rattle.wa_ops.specs.declared.op.Op.{Op};
+ghost use Rattle.wa_machine.specs.Machine.{label_at};
 ghost use Rattle.wa_run.specs.Flat.{IsMarker};
 ghost use Rattle.wa_run.specs.Running.{Branches, CanBranch, CanTurn, Chooses, Turns};
 
@@ -130,12 +131,50 @@ impl Running {
         }
     }
 
+    /// The instruction `br_if`.
+    pub(crate) fn branch_if<S>(&mut self, label: u32) -> Option<Stop>
+        requires meets { CanTurn S (Op.BrIf label) self.old }
+        requires place { self.old.at < 2 ^ 63 }
+        requires words_room { length self.old.store.words.items ≤ self.old.store.words.room }
+        requires labels_room { length self.old.labels.items ≤ self.old.labels.room }
+        ensures turns { (entry : ℕ) → Turns S (Op.BrIf label) entry self.old result self.new }
+    {
+        let condition = self.store.words.pop();
+        if condition == 0 {
+            self.at += 1;
+            return None;
+        }
+        self.branch::<S>(label)
+    }
+
+    /// The instruction `br_table`.
+    pub(crate) fn branch_table<S>(&mut self, labels: &[u32], last: u32) -> Option<Stop>
+        requires meets { CanTurn S (Op.BrTable labels.now last) self.old }
+        requires words_room { length self.old.store.words.items ≤ self.old.store.words.room }
+        requires labels_room { length self.old.labels.items ≤ self.old.labels.room }
+        ensures turns { (entry : ℕ) → Turns S (Op.BrTable labels.now last) entry self.old result self.new }
+    {
+        let index = self.store.words.pop();
+        self.branch::<S>(label_of(labels, last, index))
+    }
+
     /// The instruction `return`.
     pub(crate) fn leave<S>(&self) -> Stop
         requires meets { CanTurn S Op.Return self.now }
         ensures turns { (entry : ℕ) → Turns S Op.Return entry self.now (Some result) self.now }
     {
         Stop::Returned(self.store.words.top().cast_signed())
+    }
+}
+
+/// The label of a `br_table` at this index; past its list the last.
+fn label_of(labels: &[u32], last: u32, index: u64) -> u32
+    ensures label { result ≡ label_at labels.now last index }
+{
+    if index < labels.len() as u64 {
+        labels[index as usize]
+    } else {
+        last
     }
 }
 
