@@ -2,6 +2,7 @@
 //! and leave regions. No public call stands on them yet.
 #![tactic(auto)]
 
+mod calls;
 mod guards;
 mod label;
 mod labels;

@@ -12,11 +12,19 @@ use crate::store::Store;
 use hk_base::Trap;
 use wa_ops::{Op, ValueType};
 
-/// Why a run stops; the text of `accept` and `rollback` stands in the run.
+/// What `accept` and `rollback` tell: a code, and where in the memory their text stands.
+#[derive(Clone, Copy, Debug, PartialEq, Eq)]
+pub(crate) struct Message {
+    pub(crate) code: i64,
+    pub(crate) from: u32,
+    pub(crate) size: u32,
+}
+
+/// Why a run stops.
 #[derive(Clone, Copy, Debug, PartialEq, Eq)]
 pub(crate) enum Stop {
-    Accepted(i64),
-    RolledBack(i64),
+    Accepted(Message),
+    RolledBack(Message),
     Returned(i64),
     Trapped(Trap),
     GuardViolated { id: u32, limit: u32 },
@@ -30,8 +38,6 @@ pub(crate) struct Running {
     pub(crate) labels: Labels,
     pub(crate) guards: Guards,
     pub(crate) store: Store,
-    /// The text of `accept` or `rollback`.
-    pub(crate) text: Vec<u8>,
 }
 
 impl Running {
