@@ -1,5 +1,5 @@
 -- The calls of imports: what they take, and what they leave of the run.
-use Rattle.std.proofs.Common.{◌≡◌, ◌+◌, ◌^◌, ◌<◌, ◌≤◌, ◌==◌, ℕ, zero, suc, ℤ, List, [], ◌∷◌, ◌++◌, Option, Some, None, Bool, true, false, if◌then◌else◌, nat_lt, nat_le, cond, length, map, take, reverse, slice_get, sym, ◌∙◌, ap, subst, refl, arith, append_assoc}
+use Rattle.std.proofs.Common.{◌≡◌, ◌+◌, ◌-◌, ◌^◌, ◌<◌, ◌≤◌, ◌==◌, ℕ, zero, suc, ℤ, List, [], ◌∷◌, ◌++◌, Option, Some, None, Bool, true, false, if◌then◌else◌, nat_lt, nat_le, cond, IsTrue, IsFalse, length, map, take, reverse, slice_get, sym, ◌∙◌, ap, subst, refl, arith, append_assoc}
 use Rattle.std.proofs.lemmas.Bool.Decides.{nat_tests}
 use Rattle.std.proofs.lemmas.List.{take_at, length-reverse, length-map, reverse-append}
 use Rattle.std.proofs.lemmas.List.Sums.{sum_by-append}
@@ -19,7 +19,7 @@ use Rattle.wa_run.specs.Acts.{Holds, IsNoFault}
 use Rattle.wa_run.specs.Calls.{CanCall, ending_of}
 use Rattle.wa_run.specs.Flat.{words_of, all_words, AllValues, IsNarrow, Standing}
 use Rattle.wa_run.specs.Room.{passes_of}
-use Rattle.wa_run.specs.Running.{Is, Follows}
+use Rattle.wa_run.specs.Running.{Is, outcome_of, Follows}
 use Rattle.wa_run.specs.declared.running.Message.{Message}
 use Rattle.wa_run.specs.declared.running.Running.{Running}
 use Rattle.wa_run.specs.declared.running.Stop.{Stop}
@@ -27,7 +27,7 @@ use Rattle.wa_run.specs.declared.running.Stop.TheVariants as stop
 use Rattle.wa_run.proofs.Plain.{FindsAll, found_all, Keeps, moved}
 use Rattle.wa_run.proofs.Leaving.{words_append, values_append}
 use Rattle.wa_run.proofs.Choosing.{if_is_true, if_is_false}
-use Rattle.wa_run.proofs.Following.{unticked, Top, onward_follows, BeforePlain, before_plain}
+use Rattle.wa_run.proofs.Following.{unticked, Top, guards_stay, onward_follows, BeforePlain, before_plain}
 
 -- ---- what a call takes
 
@@ -208,3 +208,142 @@ guard_stops {S} function limit id below old new was many world c ops ends i h k 
     g.step_is ∙ ap (λ n. ticked (suc c.count) (pass n g.limit region i.around g.at.left c)) same_id ∙ ap (λ n. ticked (suc c.count) (pass id n region i.around g.at.left c)) same_limit
     ∙ ap (ticked (suc c.count)) (if_is_false (nat_lt (c.guards id) limit) (onward region i.around (word32 1 ∷ g.at.left) after) (ended (GuardViolated id limit) after) test) in
     subst (λ found. Follows ops ends found (Some (stop.GuardViolated id limit)) new c.host) (sym e) (refl, refl)
+
+-- ---- `accept` and `rollback`
+
+abbrev pub outcome_by : Bool → ℤ → List ℕ → Outcome
+outcome_by true = Accepted
+outcome_by false = RolledBack
+
+abbrev pub ends_by : {S : Type 0} → Bool → ℕ → ℕ → ℕ → Region → List Region → List Value → Configuration S → Step S
+ends_by accepts code size from region around left c =
+    if fits c.memory from size then ended (outcome_by accepts (cast_signed w64 code) (text_of c.memory from size)) c
+    else onward region around (word64 (2 ^ 64 - 1) ∷ left) c
+
+pub ending_takes : (accepts : Bool) → takes (ending_of accepts) ≡ I64 ∷ I32 ∷ I32 ∷ []
+ending_takes true = refl
+ending_takes false = refl
+
+pub ending_call : {S : Type 0} (accepts : Bool) (code size from : ℕ) (world : World S) (region : Region) (around : List Region) (left : List Value) (c : Configuration S) →
+    call world (ending_of accepts) (word64 code ∷ word32 size ∷ word32 from ∷ []) region around left c ≡ ends_by accepts code size from region around left c
+ending_call true code size from world region around left c = refl
+ending_call false code size from world region around left c = refl
+
+pub record AtEnding {S : Type 0} (accepts : Bool) (world : World S) (c : Configuration S) (ops : List Op) (ends : List ℕ) (old : Running) (region : Region) (around : List Region) : Type 0 where
+  pub at : AtCall world c ops ends old (ending_of accepts) region around
+  pub code : ℕ
+  pub size : ℕ
+  pub from : ℕ
+  pub words : old.store.words.items ≡ code ∷ size ∷ from ∷ (words_of at.left ++ all_words around)
+  pub size_fits : size < 2 ^ 32
+  pub from_fits : from < 2 ^ 32
+  pub left_fits : AllValues at.left
+  pub step_is : step world c ≡ ticked (suc c.count) (ends_by accepts code size from (record region { rest = at.rest }) around at.left c)
+
+pub at_ending : {S : Type 0} (accepts : Bool) (function : ℕ) (old : Running) (world : World S) (c : Configuration S) (ops : List Op) (ends : List ℕ) (i : Is ops ends c old) →
+    slice_get ops old.at ≡ Some (op.Call function) → slice_get world.context.calls function ≡ Some (ending_of accepts) → IsNoFault (step world c) → AtEnding accepts world c ops ends old i.region i.around
+at_ending accepts function old world c ops ends i h k s =
+    let a : AtCall world c ops ends old (ending_of accepts) i.region i.around = at_call (ending_of accepts) function old world c ops ends i h k s in
+    let code : FrontWide a.taken (I32 ∷ I32 ∷ []) = front_wide a.taken (I32 ∷ I32 ∷ []) (a.types ∙ ending_takes accepts) in
+    let size : FrontNarrow code.more (I32 ∷ []) = front_narrow code.more (I32 ∷ []) code.types in
+    let from : FrontNarrow size.more [] = front_narrow size.more [] size.types in
+    let is : a.taken ≡ word64 code.word ∷ word32 size.word ∷ word32 from.word ∷ [] =
+    code.is ∙ ap (λ more. word64 code.word ∷ more) (size.is ∙ ap (λ more. word32 size.word ∷ more) (from.is ∙ ap (λ more. word32 from.word ∷ more) (no_values from.more from.types))) in
+    let fits : AllValues (word64 code.word ∷ word32 size.word ∷ word32 from.word ∷ a.left) = subst (λ taken. AllValues (taken ++ a.left)) is a.values in
+    let region : Region = record i.region { rest = a.rest } in
+    record {
+      at = a;
+      code = code.word;
+      size = size.word;
+      from = from.word;
+      words = a.words ∙ ap (λ taken. words_of taken ++ (words_of a.left ++ all_words i.around)) is;
+      size_fits = fits.1.0;
+      from_fits = fits.1.1.0;
+      left_fits = fits.1.1.1;
+      step_is = a.step_is ∙ ap (λ taken. ticked (suc c.count) (call world (ending_of accepts) taken region i.around a.left c)) is
+          ∙ ap (ticked (suc c.count)) (ending_call accepts code.word size.word from.word world region i.around a.left c);
+    }
+
+-- a word, and two of 32 bits below it
+pub record EndingWords (words : List ℕ) : Type 0 where
+  pub code : ℕ
+  pub more : List ℕ
+  pub are : words ≡ code ∷ more
+  pub narrow : TwoNarrow more
+
+pub ending_needs : (S : Type 0) (accepts : Bool) (function : ℕ) (old : Running) → CanCall S (ending_of accepts) function old → EndingWords old.store.words.items
+ending_needs S accepts function old m =
+    let e : AtEnding accepts m.world m.c m.ops m.ends old m.is.region m.is.around = at_ending accepts function old m.world m.c m.ops m.ends m.is m.here m.calls m.sound in
+    let below : List ℕ = words_of e.at.left ++ all_words m.is.around in
+    record {
+      code = e.code;
+      more = e.size ∷ e.from ∷ below;
+      are = e.words;
+      narrow = record { last = e.size; other = e.from; below = below; are = refl; last_fits = e.size_fits; other_fits = e.from_fits };
+    }
+
+pub ending_some : (words : List ℕ) → EndingWords words → 0 < length words
+ending_some words e = omega (arith, ap length e.are)
+
+pub ending_below : (words more : List ℕ) (word : ℕ) → EndingWords words → words ≡ word ∷ more → TwoNarrow more
+ending_below words more word e k =
+    let p : words ≡ e.code ∷ e.more = e.are in
+    let q : e.more ≡ more = cc in
+    subst TwoNarrow q e.narrow
+
+pub told_outcome : (accepts : Bool) (found : Stop) (message : Message) (memory : List ℕ) → (IsTrue accepts → found ≡ stop.Accepted message) → (IsFalse accepts → found ≡ stop.RolledBack message) →
+    outcome_by accepts message.code (text_of memory message.from message.size) ≡ outcome_of found memory
+told_outcome true found message memory t f = ap (λ found. outcome_of found memory) (sym (t refl))
+told_outcome false found message memory t f = ap (λ found. outcome_of found memory) (sym (f refl))
+
+pub ending_stops : {S : Type 0} (accepts : Bool) (function code size from : ℕ) (below : List ℕ) (found : Stop) (message : Message) (old new : Running) → old.store.words.items ≡ code ∷ size ∷ from ∷ below →
+    from + size ≤ length old.store.memory → new.store.memory ≡ old.store.memory → message.code ≡ cast_signed w64 code → message.from ≡ from → message.size ≡ size →
+    (IsTrue accepts → found ≡ stop.Accepted message) → (IsFalse accepts → found ≡ stop.RolledBack message) →
+    (world : World S) (c : Configuration S) (ops : List Op) (ends : List ℕ) → Is ops ends c old → slice_get ops old.at ≡ Some (op.Call function) → slice_get world.context.calls function ≡ Some (ending_of accepts) → IsNoFault (step world c) →
+    Follows ops ends (step world c) (Some found) new c.host
+ending_stops {S} accepts function code size from below found message old new was within keeps mc mf ms t f world c ops ends i h k s =
+    let e : AtEnding accepts world c ops ends old i.region i.around = at_ending accepts function old world c ops ends i h k s in
+    let is : old.store.words.items ≡ e.code ∷ e.size ∷ e.from ∷ (words_of e.at.left ++ all_words i.around) = e.words in
+    let same_code : e.code ≡ code = cc in
+    let same_size : e.size ≡ size = cc in
+    let same_from : e.from ≡ from = cc in
+    let region : Region = record i.region { rest = e.at.rest } in
+    let inside : from + size ≤ length c.memory = subst (λ bytes. from + size ≤ length bytes) i.holds.memory_is within in
+    let test : fits c.memory from size ≡ true = grind (arith, nat_tests) in
+    let told : Step S = ended (outcome_by accepts (cast_signed w64 code) (text_of c.memory from size)) c in
+    let p : step world c ≡ ticked (suc c.count) told =
+    e.step_is ∙ ap (λ n. ticked (suc c.count) (ends_by accepts n e.size e.from region i.around e.at.left c)) same_code
+    ∙ ap (λ n. ticked (suc c.count) (ends_by accepts code n e.from region i.around e.at.left c)) same_size
+    ∙ ap (λ n. ticked (suc c.count) (ends_by accepts code size n region i.around e.at.left c)) same_from
+    ∙ ap (ticked (suc c.count)) (if_is_true (fits c.memory from size) told (onward region i.around (word64 (2 ^ 64 - 1) ∷ e.at.left) c) test) in
+    let memory : c.memory ≡ new.store.memory = sym i.holds.memory_is ∙ sym keeps in
+    subst (λ found_step. Follows ops ends found_step (Some found) new c.host) (sym p) (
+      ap (λ n. outcome_by accepts n (text_of c.memory from size)) (sym mc) ∙ ap (λ bytes. outcome_by accepts message.code (text_of bytes from size)) memory
+      ∙ ap (λ n. outcome_by accepts message.code (text_of new.store.memory n size)) (sym mf) ∙ ap (λ n. outcome_by accepts message.code (text_of new.store.memory message.from n)) (sym ms)
+      ∙ told_outcome accepts found message new.store.memory t f,
+      refl,
+    )
+
+pub ending_goes : {S : Type 0} (accepts : Bool) (function code size from : ℕ) (below : List ℕ) (old new : Running) → old.store.words.items ≡ code ∷ size ∷ from ∷ below →
+    length old.store.memory < from + size → new.store.words.items ≡ (2 ^ 64 - 1) ∷ below → Keeps old.store new.store → new.at ≡ old.at + 1 → new.labels.items ≡ old.labels.items → new.guards.items ≡ old.guards.items →
+    (world : World S) (c : Configuration S) (ops : List Op) (ends : List ℕ) → Is ops ends c old → slice_get ops old.at ≡ Some (op.Call function) → slice_get world.context.calls function ≡ Some (ending_of accepts) → IsNoFault (step world c) →
+    Follows ops ends (step world c) None new c.host
+ending_goes {S} accepts function code size from below old new was outside w keeps a l g world c ops ends i h k s =
+    let e : AtEnding accepts world c ops ends old i.region i.around = at_ending accepts function old world c ops ends i h k s in
+    let is : old.store.words.items ≡ e.code ∷ e.size ∷ e.from ∷ (words_of e.at.left ++ all_words i.around) = e.words in
+    let same_code : e.code ≡ code = cc in
+    let same_size : e.size ≡ size = cc in
+    let same_from : e.from ≡ from = cc in
+    let same_below : below ≡ words_of e.at.left ++ all_words i.around = cc in
+    let region : Region = record i.region { rest = e.at.rest } in
+    let past : length c.memory < from + size = subst (λ bytes. length bytes < from + size) i.holds.memory_is outside in
+    let test : fits c.memory from size ≡ false = grind (arith, nat_tests) in
+    let told : Step S = ended (outcome_by accepts (cast_signed w64 code) (text_of c.memory from size)) c in
+    let p : step world c ≡ ticked (suc c.count) (onward region i.around (word64 (2 ^ 64 - 1) ∷ e.at.left) c) =
+    e.step_is ∙ ap (λ n. ticked (suc c.count) (ends_by accepts n e.size e.from region i.around e.at.left c)) same_code
+    ∙ ap (λ n. ticked (suc c.count) (ends_by accepts code n e.from region i.around e.at.left c)) same_size
+    ∙ ap (λ n. ticked (suc c.count) (ends_by accepts code size n region i.around e.at.left c)) same_from
+    ∙ ap (ticked (suc c.count)) (if_is_false (fits c.memory from size) told (onward region i.around (word64 (2 ^ 64 - 1) ∷ e.at.left) c) test) in
+    onward_follows i.region i.around e.at.rest (word64 (2 ^ 64 - 1) ∷ e.at.left) c c.host old new world c ops ends e.at.top e.at.standing i.rooted p
+    (moved i.around i.around i.region.operands (word64 (2 ^ 64 - 1) ∷ e.at.left) c.locals c.globals c.memory old.store new.store i.holds (omega arith, e.left_fits) (w ∙ ap (λ words. (2 ^ 64 - 1) ∷ words) same_below) keeps)
+    a l (guards_stay c.guards c.guards old new refl g i.guards) refl

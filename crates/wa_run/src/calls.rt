@@ -40,12 +40,14 @@ impl Running {
         let code = self.store.words.pop().cast_signed();
         let size = self.store.words.pop_narrow();
         let from = self.store.words.pop_narrow();
-        if self.store.memory.read(from, size).is_none() {
-            self.store.words.push(u64::MAX);
-            self.at += 1;
-            return None;
+        match self.store.memory.read(from, size) {
+            Some(_) => Some(told(accepts, Message { code, from, size })),
+            None => {
+                self.store.words.push(u64::MAX);
+                self.at += 1;
+                None
+            }
         }
-        Some(told(accepts, Message { code, from, size }))
     }
 
     /// A call of the host.
