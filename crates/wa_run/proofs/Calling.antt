@@ -1,7 +1,7 @@
 -- The calls of imports: what they take, and what they leave of the run.
-use Rattle.std.proofs.Common.{◌≡◌, ◌+◌, ◌-◌, ◌^◌, ◌<◌, ◌≤◌, ◌==◌, ℕ, zero, suc, ℤ, List, [], ◌∷◌, ◌++◌, Option, Some, None, Bool, true, false, if◌then◌else◌, nat_lt, nat_le, cond, IsTrue, IsFalse, length, map, take, reverse, slice_get, sym, ◌∙◌, ap, subst, refl, arith, append_assoc}
+use Rattle.std.proofs.Common.{◌≡◌, ◌+◌, ◌-◌, ◌^◌, ◌<◌, ◌≤◌, ◌==◌, ℕ, zero, suc, ℤ, List, [], ◌∷◌, ◌++◌, Option, Some, None, Bool, true, false, if◌then◌else◌, nat_lt, nat_le, cond, IsTrue, IsFalse, length, map, take, drop, reverse, slice_get, sym, ◌∙◌, ap, subst, refl, arith, append_assoc}
 use Rattle.std.proofs.lemmas.Bool.Decides.{nat_tests}
-use Rattle.std.proofs.lemmas.List.{take_at, length-reverse, length-map, reverse-append}
+use Rattle.std.proofs.lemmas.List.{take_at, drop_at, length-reverse, length-append, map-append, reverse-append}
 use Rattle.std.proofs.lemmas.List.Sums.{sum_by-append}
 use Rattle.std.specs.Int.{cast_signed, cast_unsigned, w64}
 use Rattle.hk_base.specs.declared.outcome.Outcome.{Outcome}
@@ -25,7 +25,7 @@ use Rattle.wa_run.specs.declared.running.Running.{Running}
 use Rattle.wa_run.specs.declared.running.Stop.{Stop}
 use Rattle.wa_run.specs.declared.running.Stop.TheVariants as stop
 use Rattle.wa_run.proofs.Plain.{FindsAll, found_all, Keeps, moved}
-use Rattle.wa_run.proofs.Leaving.{words_append, values_append}
+use Rattle.wa_run.proofs.Leaving.{words_append}
 use Rattle.wa_run.proofs.Choosing.{if_is_true, if_is_false}
 use Rattle.wa_run.proofs.Following.{unticked, Top, guards_stay, onward_follows, BeforePlain, before_plain}
 
@@ -347,3 +347,78 @@ ending_goes {S} accepts function code size from below old new was outside w keep
     onward_follows i.region i.around e.at.rest (word64 (2 ^ 64 - 1) ∷ e.at.left) c c.host old new world c ops ends e.at.top e.at.standing i.rooted p
     (moved i.around i.around i.region.operands (word64 (2 ^ 64 - 1) ∷ e.at.left) c.locals c.globals c.memory old.store new.store i.holds (omega arith, e.left_fits) (w ∙ ap (λ words. (2 ^ 64 - 1) ∷ words) same_below) keeps)
     a l (guards_stay c.guards c.guards old new refl g i.guards) refl
+
+-- ---- the host's calls
+
+pub types_long : (values : List Value) → length (types_of values) ≡ length (words_of values)
+types_long [] = refl
+types_long (value ∷ values) = ap suc (types_long values)
+
+pub taken_long : (taken : List Value) (parameters : List ValueType) → types_of taken ≡ reverse parameters → length (words_of taken) ≡ length parameters
+taken_long taken parameters e = sym (types_long taken) ∙ ap length e ∙ length-reverse parameters
+
+pub ask_needs : (S : Type 0) (row : ℕ) (parameters : List ValueType) (function : ℕ) (old : Running) → CanCall S (host_call row parameters) function old → length parameters ≤ length old.store.words.items
+ask_needs S row parameters function old m =
+    let a : AtCall m.world m.c m.ops m.ends old (host_call row parameters) m.is.region m.is.around = at_call (host_call row parameters) function old m.world m.c m.ops m.ends m.is m.here m.calls m.sound in
+    omega (arith, taken_long a.taken parameters a.types, ap length a.words, length-append (words_of a.taken) (words_of a.left ++ all_words m.is.around))
+
+pub words_reversed : (values : List Value) → reverse (words_of values) ≡ map word_of (reverse values)
+words_reversed [] = refl
+words_reversed (value ∷ values) =
+    reverse-append (word_of value ∷ []) (words_of values) ∙ ap (λ words. words ++ word_of value ∷ []) (words_reversed values)
+    ∙ sym (map-append word_of (reverse values) (value ∷ [])) ∙ ap (map word_of) (sym (reverse-append (value ∷ []) values))
+
+-- the arguments and the words below them, cut from the words
+pub arguments_are : (taken : List Value) (below words : List ℕ) (count : ℕ) → words ≡ words_of taken ++ below → length (words_of taken) ≡ count → reverse (take count words) ≡ map word_of (reverse taken)
+arguments_are taken below words count e l = ap (λ xs. reverse (take count xs)) e ∙ ap reverse (take_at (words_of taken) below count l) ∙ words_reversed taken
+
+-- what a call of the host leaves of the run
+pub record Answered {S : Type 0} (meaning : HostMeaning S) (row count : ℕ) (arguments : List ℕ) (word : ℕ) (old : Running) (before : S) (new : Running) (after : S) : Type 0 where
+  pub arguments_are : arguments ≡ reverse (take count old.store.words.items)
+  pub word_is : word ≡ cast_unsigned w64 (meaning.answer before row arguments old.store.memory)
+  pub word_fits : word < 2 ^ 64
+  pub words : new.store.words.items ≡ word ∷ drop count old.store.words.items
+  pub memory : new.store.memory ≡ meaning.memory_after before row arguments old.store.memory
+  pub same_length : length new.store.memory ≡ length old.store.memory
+  pub state : after ≡ meaning.state_after before row arguments old.store.memory
+  pub at : new.at ≡ old.at + 1
+  pub labels : new.labels.items ≡ old.labels.items
+  pub guards : new.guards.items ≡ old.guards.items
+  pub locals : new.store.locals.items ≡ old.store.locals.items
+  pub globals : new.store.globals.items ≡ old.store.globals.items
+
+pub ask_follows : {S : Type 0} (meaning : HostMeaning S) (row function : ℕ) (parameters : List ValueType) (arguments : List ℕ) (word : ℕ) (old : Running) (before : S) (new : Running) (after : S) →
+    Answered meaning row (length parameters) arguments word old before new after →
+    (world : World S) (c : Configuration S) (ops : List Op) (ends : List ℕ) → world.host ≡ meaning → c.host ≡ before → Is ops ends c old → slice_get ops old.at ≡ Some (op.Call function) →
+    slice_get world.context.calls function ≡ Some (host_call row parameters) → IsNoFault (step world c) → Follows ops ends (step world c) None new after
+ask_follows {S} meaning row function parameters arguments word old before new after n world c ops ends m b i h k s =
+    let a : AtCall world c ops ends old (host_call row parameters) i.region i.around = at_call (host_call row parameters) function old world c ops ends i h k s in
+    let count : length (words_of a.taken) ≡ length parameters = taken_long a.taken parameters a.types in
+    let below : List ℕ = words_of a.left ++ all_words i.around in
+    let given : arguments ≡ map word_of (reverse a.taken) = n.arguments_are ∙ arguments_are a.taken below old.store.words.items (length parameters) a.words count in
+    let left : drop (length parameters) old.store.words.items ≡ below = ap (drop (length parameters)) a.words ∙ drop_at (words_of a.taken) below (length parameters) count in
+    let region : Region = record i.region { rest = a.rest } in
+    let go : HostMeaning S → S → List ℕ → List ℕ → Step S =
+    λ meaning host arguments memory. onward region i.around (word64 (cast_unsigned w64 (meaning.answer host row arguments memory)) ∷ a.left)
+        (record c { memory = meaning.memory_after host row arguments memory; host = meaning.state_after host row arguments memory }) in
+    let p : step world c ≡ ticked (suc c.count) (go meaning before arguments old.store.memory) =
+    a.step_is ∙ ap (λ x. ticked (suc c.count) (go x c.host (map word_of (reverse a.taken)) c.memory)) m ∙ ap (λ x. ticked (suc c.count) (go meaning x (map word_of (reverse a.taken)) c.memory)) b
+    ∙ ap (λ x. ticked (suc c.count) (go meaning before x c.memory)) (sym given) ∙ ap (λ x. ticked (suc c.count) (go meaning before arguments x)) (sym i.holds.memory_is) in
+    let memory : List ℕ = meaning.memory_after before row arguments old.store.memory in
+    let answer : ℕ = cast_unsigned w64 (meaning.answer before row arguments old.store.memory) in
+    let later : Configuration S = record c { memory = memory; host = meaning.state_after before row arguments old.store.memory } in
+    onward_follows i.region i.around a.rest (word64 answer ∷ a.left) later after old new world c ops ends a.top a.standing i.rooted p
+    (record {
+      words = n.words ∙ ap (λ x. x ∷ drop (length parameters) old.store.words.items) n.word_is ∙ ap (λ xs. answer ∷ xs) left;
+      operands_fit = (subst (λ x. x < 2 ^ 64) n.word_is n.word_fits, values_behind a.taken a.left a.values);
+      locals_are = n.locals ∙ i.holds.locals_are;
+      locals_fit = i.holds.locals_fit;
+      globals_are = n.globals ∙ i.holds.globals_are;
+      globals_fit = i.holds.globals_fit;
+      memory_is = n.memory;
+      memory_fits = subst (λ size. size ≤ 1048576) (sym n.same_length) i.holds.memory_fits;
+    }) n.at n.labels (guards_stay c.guards c.guards old new refl n.guards i.guards) (sym n.state)
+  where
+    values_behind : (xs ys : List Value) → AllValues (xs ++ ys) → AllValues ys
+    values_behind [] ys v = v
+    values_behind (x ∷ xs) ys v = values_behind xs ys v.1
