@@ -487,3 +487,15 @@ branch_needs_carry S label named others old d p m =
         let size : length old.store.words.items ≡ length (words_of (o.value ∷ o.left) ++ all_words m.around) = ap length (w ∙ ap (λ values. words_of values ++ all_words m.around) o.operands_are) in
         subst (λ carries. (if carries then 1 else 0) + named.height ≤ length old.store.words.items) (sym (c ∙ o.carries))
         (omega (arith, size, length-append (words_of o.left) (all_words m.around)))
+
+-- the words that a branch keeps are at most one more
+pub carried_few : (carries : Bool) (words new : List ℕ) (count : ℕ) → new ≡ carried_words carries words ++ drop count words → length new ≤ length words + 1
+carried_few carries words new count e = omega (arith, ap length e, length-append (carried_words carries words) (drop count words), length-drop count words, one carries)
+  where
+    one : (carries : Bool) → length (carried_words carries words) ≤ 1
+    one true = first words
+      where
+        first : (words : List ℕ) → length (take 1 words) ≤ 1
+        first [] = omega arith
+        first (word ∷ words) = omega arith
+    one false = omega arith

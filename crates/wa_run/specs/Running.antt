@@ -1,5 +1,5 @@
 -- A run of flat code under way, and what one turn makes of it, against one step of the machine.
-use Rattle.std.specs.Prelude.{ℕ, ◌≡◌, List, ◌∷◌, Option, Some, None, slice_get}
+use Rattle.std.specs.Prelude.{ℕ, ◌≡◌, ◌+◌, ◌≤◌, List, ◌∷◌, Option, Some, None, length, slice_get}
 use Rattle.hk_base.specs.declared.outcome.Outcome.{Outcome}
 use Rattle.hk_base.specs.declared.outcome.Outcome.TheVariants.{Accepted, RolledBack, Returned, Trapped, GuardViolated}
 use Rattle.wa_ops.specs.declared.op.Op.{Op}
@@ -90,3 +90,12 @@ abbrev pub Chooses : (S : Type 0) → Option ValueType → ℕ → Option ℕ �
 Chooses S carried entry other old new =
     (world : World S) (c : Configuration S) (ops : List Op) (ends : List ℕ) → Is ops ends c old →
     slice_get ops old.at ≡ Some (If carried) → slice_get ends old.at ≡ Some entry → IsArm ops ends entry other → IsNoFault (step world c) → Follows ops ends (step world c) None new c.host
+
+-- at most one item more on each stack, and no less room
+pub record Widens (old new : Running) : Type 0 where
+  pub words : length new.store.words.items ≤ length old.store.words.items + 1
+  pub words_room : old.store.words.room ≤ new.store.words.room
+  pub labels : length new.labels.items ≤ length old.labels.items + 1
+  pub labels_room : old.labels.room ≤ new.labels.room
+  pub guards : length new.guards.items ≤ length old.guards.items + 1
+  pub guards_room : old.guards.room ≤ new.guards.room

@@ -2,6 +2,7 @@
 ghost use Rattle.std.specs.Prelude.{◌<◌, ◌≡◌, ◌≤◌, ◌^◌, length, IsErr, IsFalse, IsTrue, OnOk};
 ghost use Rattle.wa_ops.specs.Callees.{guard, host_call};
 ghost use Rattle.wa_ops.specs.Rows.{row_parameters};
+ghost use Rattle.wa_run.specs.Running.{Widens};
 ghost use Rattle.wa_run.specs.declared.running.Stop.{Stop};
 ghost use Rattle.wa_run.specs.Calls.{Asks, CallsIt, CanCall, ending_of, meaning_of};
 
@@ -17,6 +18,7 @@ impl Running {
         requires words_room { length self.old.store.words.items ≤ self.old.store.words.room }
         requires guards_room { length self.old.guards.items < self.old.guards.room }
         ensures turns { CallsIt S guard function self.old result self.new }
+        ensures grows { Widens self.old self.new }
     {
         let limit = self.store.words.pop_narrow();
         let id = self.store.words.pop_narrow();
@@ -36,6 +38,7 @@ impl Running {
         requires place { self.old.at < 2 ^ 63 }
         requires words_room { length self.old.store.words.items ≤ self.old.store.words.room }
         ensures turns { CallsIt S (ending_of accepts) function self.old result self.new }
+        ensures grows { Widens self.old self.new }
     {
         let code = self.store.words.pop().cast_signed();
         let size = self.store.words.pop_narrow();
@@ -62,6 +65,7 @@ impl Running {
         requires place { self.old.at < 2 ^ 63 }
         requires words_room { length self.old.store.words.items < self.old.store.words.room }
         ensures asks { OnOk result (Asks H (meaning_of H.answer H.memory_after H.state_after) (host_call number.0 (row_parameters number.0)) function self.old host.old self.new host.new) }
+        ensures grows { OnOk result (Widens self.old self.new) }
         ensures told { H.may_want host.new ≡ H.may_want host.old }
         ensures wants { IsErr result → IsTrue (H.may_want host.old) }
     {

@@ -3,7 +3,7 @@ ghost use Rattle.std.specs.Prelude.{ℕ, ◌+◌, ◌<◌, ◌≤◌, ◌≡◌,
 ghost use Rattle.wa_ops.specs.declared.op.Op.{Op};
 ghost use Rattle.wa_machine.specs.Machine.{label_at};
 ghost use Rattle.wa_run.specs.Flat.{IsMarker};
-ghost use Rattle.wa_run.specs.Running.{Branches, CanBranch, CanTurn, Chooses, Turns};
+ghost use Rattle.wa_run.specs.Running.{Branches, CanBranch, CanTurn, Chooses, Turns, Widens};
 
 use crate::guards::Guards;
 use crate::label::{Label, Place, carries};
@@ -46,6 +46,7 @@ impl Running {
         requires place { self.old.at < 2 ^ 63 }
         requires room { length self.old.labels.items < self.old.labels.room }
         ensures turns { Turns S (Op.Block carried) last self.old None self.new }
+        ensures grows { Widens self.old self.new }
     {
         self.labels.open(Label {
             place: Place::Inner,
@@ -61,6 +62,7 @@ impl Running {
         requires place { self.old.at < 2 ^ 63 }
         requires room { length self.old.labels.items < self.old.labels.room }
         ensures turns { Turns S (Op.Loop carried) last self.old None self.new }
+        ensures grows { Widens self.old self.new }
     {
         self.labels.open(Label {
             place: Place::Loop(self.at + 1),
@@ -77,6 +79,7 @@ impl Running {
         requires place { self.old.at < 2 ^ 63 }
         requires room { length self.old.labels.items < self.old.labels.room }
         ensures chooses { Chooses S carried entry other self.old self.new }
+        ensures grows { Widens self.old self.new }
     {
         let condition = self.store.words.pop();
         let label = Label {
@@ -103,6 +106,7 @@ impl Running {
     pub(crate) fn end<S>(&mut self) -> Option<Stop>
         requires turns { (instruction : Op) × IsMarker instruction × CanTurn S instruction self.old }
         ensures turns { (instruction : Op) → IsMarker instruction → (entry : ℕ) → Turns S instruction entry self.old result self.new }
+        ensures grows { Widens self.old self.new }
     {
         let label = self.labels.close();
         if let Place::Body = label.place {
@@ -118,6 +122,7 @@ impl Running {
         requires words_room { length self.old.store.words.items ≤ self.old.store.words.room }
         requires labels_room { length self.old.labels.items ≤ self.old.labels.room }
         ensures branches { Branches S label self.old result self.new }
+        ensures grows { Widens self.old self.new }
     {
         self.labels.unwind(label as usize);
         let named = self.labels.close();
@@ -144,6 +149,7 @@ impl Running {
         requires words_room { length self.old.store.words.items ≤ self.old.store.words.room }
         requires labels_room { length self.old.labels.items ≤ self.old.labels.room }
         ensures turns { (entry : ℕ) → Turns S (Op.BrIf label) entry self.old result self.new }
+        ensures grows { Widens self.old self.new }
     {
         let condition = self.store.words.pop();
         if condition == 0 {
@@ -159,6 +165,7 @@ impl Running {
         requires words_room { length self.old.store.words.items ≤ self.old.store.words.room }
         requires labels_room { length self.old.labels.items ≤ self.old.labels.room }
         ensures turns { (entry : ℕ) → Turns S (Op.BrTable labels.now last) entry self.old result self.new }
+        ensures grows { Widens self.old self.new }
     {
         let index = self.store.words.pop();
         self.branch::<S>(label_of(labels, last, index))

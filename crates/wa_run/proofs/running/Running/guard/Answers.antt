@@ -8,17 +8,16 @@ pop_narrow-limit-requires g c = record { narrow = last_narrow _ (guard_needs _ c
 pub pop_narrow-id-requires : goal.pop_narrow-id-requires
 pop_narrow-id-requires g c = record { narrow = other_narrow _ _ c.pop_narrow-limit.result (guard_needs _ c.args.function c.args.self.now c.requires.meets) c.pop_narrow-limit.ensures.items }
 
-pub returns-then-limit-passes : goal.returns-then-limit-passes
-returns-then-limit-passes g c = record {
-  turns = guard_stops c.args.function c.pop_narrow-limit.result c.pop_narrow-id.result c.pop_narrow-id.new.self.items c.args.self.now
+pub returns-then-limit-passes-clause-turns : goal.returns-then-limit-passes-clause-turns
+returns-then-limit-passes-clause-turns g c =
+    guard_stops c.args.function c.pop_narrow-limit.result c.pop_narrow-id.result c.pop_narrow-id.new.self.items c.args.self.now
       (record c.args.self.now { store = record c.args.self.now.store { words = c.pop_narrow-id.new.self }; guards = c.pass.new.self })
       (c.pop_narrow-limit.ensures.items ∙ ap (λ words. c.pop_narrow-limit.result ∷ words) c.pop_narrow-id.ensures.items)
-      (subst (λ n. c.pop_narrow-limit.result ≤ n) c.passes-passes.ensures.passes (omega arith));
-}
+      (subst (λ n. c.pop_narrow-limit.result ≤ n) c.passes-passes.ensures.passes (omega arith))
 
-pub returns : goal.returns
-returns g c = record {
-  turns = guard_goes c.args.function c.pop_narrow-limit.result c.pop_narrow-id.result c.pop_narrow-id.new.self.items c.args.self.now
+pub returns-clause-turns : goal.returns-clause-turns
+returns-clause-turns g c =
+    guard_goes c.args.function c.pop_narrow-limit.result c.pop_narrow-id.result c.pop_narrow-id.new.self.items c.args.self.now
       (record c.args.self.now { at = c.args.self.now.at + 1; store = record c.args.self.now.store { words = c.push.new.self }; guards = c.pass.new.self })
       (record {
         words = c.pop_narrow-limit.ensures.items ∙ ap (λ words. c.pop_narrow-limit.result ∷ words) c.pop_narrow-id.ensures.items;
@@ -27,5 +26,4 @@ returns g c = record {
         guards = c.pass.ensures.items;
       })
       (subst (λ n. n < c.pop_narrow-limit.result) c.passes-passes.ensures.passes (omega arith))
-      c.push.ensures.items refl;
-}
+      c.push.ensures.items refl
