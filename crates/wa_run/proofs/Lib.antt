@@ -5,3 +5,4 @@ pub mod Leaving
 pub mod Reversed
 pub mod Branching
 pub mod Choosing
+pub mod Numeric

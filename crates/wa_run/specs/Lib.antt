@@ -1,4 +1,5 @@
 pub mod Acts
 pub mod Flat
+pub mod Numbers
 pub mod Room
 pub mod Running

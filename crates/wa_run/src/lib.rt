@@ -5,6 +5,7 @@
 mod guards;
 mod label;
 mod labels;
+mod numbers;
 mod running;
 mod store;
 mod words;
