@@ -6,3 +6,4 @@ pub mod Reversed
 pub mod Branching
 pub mod Choosing
 pub mod Numeric
+pub mod Accesses

@@ -5,6 +5,7 @@
 mod guards;
 mod label;
 mod labels;
+mod memory_access;
 mod numbers;
 mod running;
 mod store;
