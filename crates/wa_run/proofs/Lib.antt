@@ -6,3 +6,5 @@ pub mod Reversed
 pub mod Branching
 pub mod Choosing
 pub mod Calling
+pub mod Numeric
+pub mod Accesses

@@ -1,5 +1,6 @@
 pub mod Acts
 pub mod Calls
 pub mod Flat
+pub mod Numbers
 pub mod Room
 pub mod Running

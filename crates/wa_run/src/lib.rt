@@ -6,6 +6,8 @@ mod calls;
 mod guards;
 mod label;
 mod labels;
+mod memory_access;
+mod numbers;
 mod running;
 mod store;
 mod words;
