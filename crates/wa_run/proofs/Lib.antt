@@ -6,5 +6,6 @@ pub mod Reversed
 pub mod Branching
 pub mod Choosing
 pub mod Calling
+pub mod Turning
 pub mod Numeric
 pub mod Accesses

@@ -4,6 +4,7 @@
 
 mod calls;
 mod guards;
+mod instructions;
 mod label;
 mod labels;
 mod memory_access;
