@@ -1,12 +1,16 @@
 -- The calls of imports: what they take, and what they leave of the run.
-use Rattle.std.proofs.Common.{◌≡◌, ◌+◌, ◌-◌, ◌^◌, ◌<◌, ◌≤◌, ◌==◌, ℕ, zero, suc, ℤ, List, [], ◌∷◌, ◌++◌, Option, Some, None, Bool, true, false, if◌then◌else◌, nat_lt, nat_le, cond, IsTrue, IsFalse, length, map, take, drop, reverse, slice_get, sym, ◌∙◌, ap, subst, refl, arith, append_assoc}
+use Rattle.std.proofs.Common.{◌≡◌, ◌+◌, ◌-◌, ◌^◌, ◌<◌, ◌≤◌, ◌==◌, ℕ, zero, suc, ℤ, List, [], ◌∷◌, ◌++◌, Option, Some, None, Bool, true, false, if◌then◌else◌, nat_lt, nat_le, cond, IsTrue, IsFalse, length, map, take, drop, reverse, slice_get, slice_index_or, sym, ◌∙◌, ap, subst, refl, arith, append_assoc}
 use Rattle.std.proofs.lemmas.Bool.Decides.{nat_tests}
+use Rattle.std.proofs.lemmas.Option.{slice_get-get_or}
 use Rattle.std.proofs.lemmas.List.{take_at, drop_at, length-reverse, length-append, map-append, reverse-append}
 use Rattle.std.proofs.lemmas.List.Sums.{sum_by-append}
 use Rattle.std.specs.Int.{cast_signed, cast_unsigned, w64}
 use Rattle.hk_base.specs.declared.outcome.Outcome.{Outcome}
 use Rattle.hk_base.specs.declared.outcome.Outcome.TheVariants.{Accepted, RolledBack, GuardViolated}
 use Rattle.wa_ops.specs.Callees.{Callee, guard, accept, rollback, host_call, takes}
+use Rattle.wa_ops.specs.Contexts.{callee_of_row}
+use Rattle.wa_ops.specs.Rows.{row_parameters}
+use Rattle.wa_ops.specs.declared.call_no.CallNo.{CallNo}
 use Rattle.wa_ops.specs.declared.op.Op.{Op}
 use Rattle.wa_ops.specs.declared.op.Op.TheVariants as op
 use Rattle.wa_ops.specs.declared.op.ValueType.{ValueType}
@@ -16,7 +20,7 @@ use Rattle.wa_num.specs.Memory.{fits}
 use Rattle.wa_machine.specs.Law.{types_of}
 use Rattle.wa_machine.specs.Machine.{Value, word32, word64, word_of, Region, Configuration, World, HostMeaning, Step, ended, onward, with_some, with_all, text_of, end_with, counted, pass, call, act, ticked, step}
 use Rattle.wa_run.specs.Acts.{Holds, IsNoFault}
-use Rattle.wa_run.specs.Calls.{CanCall, ending_of}
+use Rattle.wa_run.specs.Calls.{AreRows, Asks, CallsIt, CanCall, CanGo, Goes, callees_of, ending_of}
 use Rattle.wa_run.specs.Flat.{words_of, all_words, AllValues, IsNarrow, Standing}
 use Rattle.wa_run.specs.Room.{passes_of}
 use Rattle.wa_run.specs.Running.{Is, outcome_of, Follows}
@@ -24,7 +28,7 @@ use Rattle.wa_run.specs.declared.running.Message.{Message}
 use Rattle.wa_run.specs.declared.running.Running.{Running}
 use Rattle.wa_run.specs.declared.running.Stop.{Stop}
 use Rattle.wa_run.specs.declared.running.Stop.TheVariants as stop
-use Rattle.wa_run.proofs.Plain.{FindsAll, found_all, Keeps, moved}
+use Rattle.wa_run.proofs.Plain.{FindsSome, found_some, FindsAll, found_all, Keeps, moved}
 use Rattle.wa_run.proofs.Leaving.{words_append}
 use Rattle.wa_run.proofs.Choosing.{if_is_true, if_is_false}
 use Rattle.wa_run.proofs.Following.{unticked, Top, guards_stay, onward_follows, BeforePlain, before_plain}
@@ -422,3 +426,85 @@ ask_follows {S} meaning row function parameters arguments word old before new af
     values_behind : (xs ys : List Value) → AllValues (xs ++ ys) → AllValues ys
     values_behind [] ys v = v
     values_behind (x ∷ xs) ys v = values_behind xs ys v.1
+
+-- ---- the function of a row
+
+pub callees_get : (calls : List CallNo) (function : ℕ) (number : CallNo) → slice_get calls function ≡ Some number → slice_get (callees_of calls) function ≡ Some (callee_of_row (Some number.0))
+callees_get [] function number e = absurd cc
+callees_get (first ∷ calls) zero number e = let p : first ≡ number = cc in ap (λ (n : CallNo). Some (callee_of_row (Some n.0))) p
+callees_get (first ∷ calls) (suc function) number e = callees_get calls function number e
+
+pub callees_long : (calls : List CallNo) → length (callees_of calls) ≡ length calls
+callees_long [] = refl
+callees_long (number ∷ calls) = ap suc (callees_long calls)
+
+pub row_within : (calls : List CallNo) (function : ℕ) (number : CallNo) → AreRows calls → slice_get calls function ≡ Some number → number.0 ≤ 64
+row_within [] function number r e = absurd cc
+row_within (first ∷ calls) zero number r e = let p : first ≡ number = cc in subst (λ (n : CallNo). n.0 ≤ 64) p r.0
+row_within (first ∷ calls) (suc function) number r e = row_within calls function number r.1 e
+
+pub some_within : {A : Type 0} (xs : List A) (place : ℕ) (x : A) → slice_get xs place ≡ Some x → place < length xs
+some_within [] place x e = absurd cc
+some_within (first ∷ xs) zero x e = omega arith
+some_within (first ∷ xs) (suc place) x e = omega (arith, some_within xs place x e)
+
+-- the function that is called is there
+pub call_within : (S : Type 0) (ops : List Op) (ends : List ℕ) (calls : List CallNo) (function : ℕ) (old : Running) → slice_get ops old.at ≡ Some (op.Call function) → CanGo S ops ends calls old → function < length calls
+call_within S ops ends calls function old h m =
+    let b : BeforePlain m.world m.c ops ends old (op.Call function) m.is.region m.is.around = before_plain m.world m.c ops ends old (op.Call function) m.is refl h in
+    let region : Region = record m.is.region { rest = b.rest } in
+    let go : Callee → Step S = λ callee. with_all (takes callee) m.is.region.operands (λ arguments left. call m.world callee arguments region m.is.around left m.c) in
+    let f : FindsSome (slice_get m.world.context.calls function) =
+    found_some (slice_get m.world.context.calls function) go (unticked (suc m.c.count) (with_some (slice_get m.world.context.calls function) go) (subst IsNoFault b.step_is m.sound)) in
+    omega (arith, some_within (callees_of calls) function f.value (ap (λ callees. slice_get callees function) (sym m.calls_are) ∙ f.is), callees_long calls)
+
+pub can_call : (S : Type 0) (ops : List Op) (ends : List ℕ) (calls : List CallNo) (function : ℕ) (number : CallNo) (callee : Callee) (old : Running) → slice_get ops old.at ≡ Some (op.Call function) →
+    slice_get calls function ≡ Some number → callee_of_row (Some number.0) ≡ callee → CanGo S ops ends calls old → CanCall S callee function old
+can_call S ops ends calls function number callee old h n e m = record {
+  world = m.world;
+  c = m.c;
+  ops = ops;
+  ends = ends;
+  is = m.is;
+  here = h;
+  calls = ap (λ callees. slice_get callees function) m.calls_are ∙ callees_get calls function number n ∙ ap Some e;
+  sound = m.sound;
+}
+
+pub goes_by : {S : Type 0} (meaning : HostMeaning S) (ops : List Op) (ends : List ℕ) (calls : List CallNo) (function : ℕ) (number : CallNo) (callee : Callee) (old : Running) (host : S) (found : Option Stop) (new : Running) →
+    slice_get ops old.at ≡ Some (op.Call function) → slice_get calls function ≡ Some number → callee_of_row (Some number.0) ≡ callee → CallsIt S callee function old found new →
+    Goes S meaning calls ops ends old host found new host
+goes_by {S} meaning ops ends calls function number callee old host found new h n e turns world c w k i s =
+    subst (λ after. Follows ops ends (step world c) found new after) k
+    (turns world c ops ends i h (ap (λ callees. slice_get callees function) w.calls_are ∙ callees_get calls function number n ∙ ap Some e) s)
+
+pub asks_by : {S : Type 0} (meaning : HostMeaning S) (ops : List Op) (ends : List ℕ) (calls : List CallNo) (function : ℕ) (number : CallNo) (callee : Callee) (old : Running) (before : S) (new : Running) (after : S) →
+    slice_get ops old.at ≡ Some (op.Call function) → slice_get calls function ≡ Some number → callee_of_row (Some number.0) ≡ callee → Asks S meaning callee function old before new after →
+    Goes S meaning calls ops ends old before None new after
+asks_by meaning ops ends calls function number callee old before new after h n e asks world c w k i s =
+    asks world c ops ends w.host_is k i h (ap (λ callees. slice_get callees function) w.calls_are ∙ callees_get calls function number n ∙ ap Some e) s
+
+pub host_row : (n : ℕ) → 3 ≤ n → callee_of_row (Some n) ≡ host_call n (row_parameters n)
+host_row n h =
+    let a : (n == 0) ≡ false = grind (arith, nat_tests) in
+    let b : (n == 1) ≡ false = grind (arith, nat_tests) in
+    let d : (n == 2) ≡ false = grind (arith, nat_tests) in
+    let host : Callee = host_call n (row_parameters n) in
+    if_is_false (n == 0) guard (if n == 1 then accept else if n == 2 then rollback else host) a ∙ if_is_false (n == 1) accept (if n == 2 then rollback else host) b ∙ if_is_false (n == 2) rollback host d
+
+-- the row of a function
+abbrev pub row_at : List CallNo → ℕ → CallNo
+row_at calls function = slice_index_or calls function (record { 0 = 0 })
+
+pub row_got : (calls : List CallNo) (function : ℕ) → function < length calls → slice_get calls function ≡ Some (row_at calls function)
+row_got calls function h = slice_get-get_or calls function (record { 0 = 0 }) h
+
+abbrev pub CallsSome : (S : Type 0) → List CallNo → ℕ → Running → Type 0
+CallsSome S calls function old = (ops : List Op) × (ends : List ℕ) × (slice_get ops old.at ≡ Some (op.Call function)) × CanGo S ops ends calls old
+
+pub function_within : (S : Type 0) (calls : List CallNo) (function : ℕ) (old : Running) → CallsSome S calls function old → function < length calls
+function_within S calls function old m = call_within S m.0 m.1 calls function old m.2 m.3
+
+pub can_call_row : (S : Type 0) (calls : List CallNo) (function : ℕ) (callee : Callee) (old : Running) → callee_of_row (Some (row_at calls function).0) ≡ callee → CallsSome S calls function old → CanCall S callee function old
+can_call_row S calls function callee old e m =
+    can_call S m.0 m.1 calls function (row_at calls function) callee old m.2 (row_got calls function (function_within S calls function old m)) e m.3

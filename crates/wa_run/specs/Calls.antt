@@ -52,3 +52,21 @@ abbrev pub Asks : (S : Type 0) → HostMeaning S → Callee → ℕ → Running 
 Asks S meaning callee function old before new after =
     (world : World S) (c : Configuration S) (ops : List Op) (ends : List ℕ) → world.host ≡ meaning → c.host ≡ before → Is ops ends c old →
     slice_get ops old.at ≡ Some (Call function) → slice_get world.context.calls function ≡ Some callee → IsNoFault (step world c) → Follows ops ends (step world c) None new after
+
+-- what stays the same in a run over a host of this meaning, in which code calls functions by these rows
+pub record IsIn {S : Type 0} (meaning : HostMeaning S) (calls : List CallNo) (world : World S) : Type 0 where
+  pub host_is : world.host ≡ meaning
+  pub calls_are : world.context.calls ≡ callees_of calls
+
+-- the machine meets no fault in some configuration where the run stands
+pub record CanGo (S : Type 0) (ops : List Op) (ends : List ℕ) (calls : List CallNo) (old : Running) : Type 0 where
+  pub world : World S
+  pub c : Configuration S
+  pub calls_are : world.context.calls ≡ callees_of calls
+  pub is : Is ops ends c old
+  pub sound : IsNoFault (step world c)
+
+-- in each configuration where the run stands over a host of this state, the turn is the machine's step, and the host's state is that after it
+abbrev pub Goes : (S : Type 0) → HostMeaning S → List CallNo → List Op → List ℕ → Running → S → Option Stop → Running → S → Type 0
+Goes S meaning calls ops ends old before found new after =
+    (world : World S) (c : Configuration S) → IsIn meaning calls world → c.host ≡ before → Is ops ends c old → IsNoFault (step world c) → Follows ops ends (step world c) found new after
