@@ -11,4 +11,5 @@ mod memory_access;
 mod numbers;
 mod running;
 mod store;
+mod turns;
 mod words;
