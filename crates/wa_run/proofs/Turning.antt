@@ -1,6 +1,6 @@
 -- All instructions, by what each does.
-use Rattle.std.proofs.Common.{◌≡◌, ◌+◌, ◌<◌, ◌≤◌, ℕ, ℤ, zero, suc, List, [], ◌∷◌, Option, Some, None, length, drop, get_or, slice_get, sym, ◌∙◌, subst, refl, ap, arith, length-drop}
-use Rattle.std.proofs.lemmas.Option.{slice_get-get_or}
+use Rattle.std.proofs.Common.{◌≡◌, ◌+◌, ◌<◌, ◌≤◌, ℕ, ℤ, zero, suc, List, [], ◌∷◌, Option, Some, None, length, drop, get_or, slice_get, slice_index_or, Result, Ok, Err, IfOk, sym, ◌∙◌, subst, refl, ap, arith, length-drop}
+use Rattle.std.proofs.lemmas.Option.{slice_get-get_or, slice_get_read}
 use Rattle.wa_ops.specs.declared.op.Op.{Op}
 use Rattle.wa_ops.specs.declared.op.Op.TheVariants as op
 use Rattle.wa_ops.specs.declared.call_no.CallNo.{CallNo}
@@ -97,3 +97,37 @@ pub goes_choice : {S : Type 0} (meaning : HostMeaning S) (ops : List Op) (ends :
     slice_get ops old.at ≡ Some (op.If carried) → slice_get ends old.at ≡ Some entry → IsArm ops ends entry other → Chooses S carried entry other old new → Goes S meaning calls ops ends old host None new host
 goes_choice meaning ops ends calls carried entry other old host new h e arm chooses world c w k i s =
     subst (λ after. Follows ops ends (step world c) None new after) k (chooses world c ops ends i h e arm s)
+
+-- what the machine has no step for
+pub no_step : (S : Type 0) (instruction : Op) (old : Running) → nesting instruction ≡ stands →
+    ((world : World S) (region : Region) (around : List Region) (operands : List Value) (c : Configuration S) → IsNoFault (act world instruction region around operands c) → ⊥) → CanTurn S instruction old → ⊥
+no_step S instruction old n faults m =
+    let b : BeforePlain m.world m.c m.ops m.ends old instruction m.is.region m.is.around = before_plain m.world m.c m.ops m.ends old instruction m.is n m.here in
+    let region : Region = record m.is.region { rest = b.rest } in
+    faults m.world region m.is.around m.is.region.operands m.c
+    (unticked (suc m.c.count) (act m.world instruction region m.is.around m.is.region.operands m.c) (subst IsNoFault b.step_is m.sound))
+
+pub plain_otherwise : (S : Type 0) (instruction : Op) (old : Running) → ((carried : Option ValueType) → instruction ≡ op.Block carried → ⊥) → ((carried : Option ValueType) → instruction ≡ op.Loop carried → ⊥) →
+    ((carried : Option ValueType) → instruction ≡ op.If carried → ⊥) → (instruction ≡ op.Else → ⊥) → (instruction ≡ op.End → ⊥) → ((label : ℕ) → instruction ≡ op.Br label → ⊥) → ((label : ℕ) → instruction ≡ op.BrIf label → ⊥) →
+    ((labels : List ℕ) (last : ℕ) → instruction ≡ op.BrTable labels last → ⊥) → (instruction ≡ op.Return → ⊥) → ((function : ℕ) → instruction ≡ op.Call function → ⊥) → CanTurn S instruction old → IsPlain instruction
+plain_otherwise S (op.Block r) old nb nl ni ne nd br bi bt nr nc m = absurd (nb r refl)
+plain_otherwise S (op.Loop r) old nb nl ni ne nd br bi bt nr nc m = absurd (nl r refl)
+plain_otherwise S (op.If r) old nb nl ni ne nd br bi bt nr nc m = absurd (ni r refl)
+plain_otherwise S op.Else old nb nl ni ne nd br bi bt nr nc m = absurd (ne refl)
+plain_otherwise S op.End old nb nl ni ne nd br bi bt nr nc m = absurd (nd refl)
+plain_otherwise S (op.Br label) old nb nl ni ne nd br bi bt nr nc m = absurd (br label refl)
+plain_otherwise S (op.BrIf label) old nb nl ni ne nd br bi bt nr nc m = absurd (bi label refl)
+plain_otherwise S (op.BrTable labels last) old nb nl ni ne nd br bi bt nr nc m = absurd (bt labels last refl)
+plain_otherwise S op.Return old nb nl ni ne nd br bi bt nr nc m = absurd (nr refl)
+plain_otherwise S (op.Call function) old nb nl ni ne nd br bi bt nr nc m = absurd (nc function refl)
+plain_otherwise S (op.CallIndirect index) old nb nl ni ne nd br bi bt nr nc m = absurd (no_step S (op.CallIndirect index) old refl (λ world region around operands c s. s) m)
+plain_otherwise S op.MemoryGrow old nb nl ni ne nd br bi bt nr nc m = absurd (no_step S op.MemoryGrow old refl (λ world region around operands c s. s) m)
+plain_otherwise S (op.Float opcode) old nb nl ni ne nd br bi bt nr nc m = absurd (no_step S (op.Float opcode) old refl (λ world region around operands c s. s) m)
+plain_otherwise S instruction old nb nl ni ne nd br bi bt nr nc m = tt
+
+pub found_here : {A : Type 0} (xs : List A) (place : ℕ) (x y : A) → place < length xs → x ≡ slice_index_or xs place x → x ≡ y → slice_get xs place ≡ Some y
+found_here xs place x y h e same = slice_get_read xs (length xs) place x refl h e ∙ ap Some same
+
+pub if_ok : {A E : Type 0} (r : Result A E) (P Q : A → Type 0) → ((x : A) → P x → Q x) → IfOk r P → IfOk r Q
+if_ok (Ok x) P Q go p = go x p
+if_ok (Err e) P Q go p = p
