@@ -23,7 +23,7 @@ use Rattle.wa_run.specs.Acts.{Holds, IsNoFault}
 use Rattle.wa_run.specs.Calls.{AreRows, Asks, CallsIt, CanCall, CanGo, Goes, callees_of, ending_of}
 use Rattle.wa_run.specs.Flat.{words_of, all_words, AllValues, IsNarrow, Standing}
 use Rattle.wa_run.specs.Room.{passes_of}
-use Rattle.wa_run.specs.Running.{Is, outcome_of, Follows}
+use Rattle.wa_run.specs.Running.{Is, outcome_of, IsHeld, Follows}
 use Rattle.wa_run.specs.declared.running.Message.{Message}
 use Rattle.wa_run.specs.declared.running.Running.{Running}
 use Rattle.wa_run.specs.declared.running.Stop.{Stop}
@@ -211,7 +211,7 @@ guard_stops {S} function limit id below old new was many world c ops ends i h k 
     let e : step world c ≡ ticked (suc c.count) (ended (GuardViolated id limit) after) =
     g.step_is ∙ ap (λ n. ticked (suc c.count) (pass n g.limit region i.around g.at.left c)) same_id ∙ ap (λ n. ticked (suc c.count) (pass id n region i.around g.at.left c)) same_limit
     ∙ ap (ticked (suc c.count)) (if_is_false (nat_lt (c.guards id) limit) (onward region i.around (word32 1 ∷ g.at.left) after) (ended (GuardViolated id limit) after) test) in
-    subst (λ found. Follows ops ends found (Some (stop.GuardViolated id limit)) new c.host) (sym e) (refl, refl)
+    subst (λ found. Follows ops ends found (Some (stop.GuardViolated id limit)) new c.host) (sym e) (refl, refl, tt)
 
 -- ---- `accept` and `rollback`
 
@@ -300,6 +300,11 @@ pub told_outcome : (accepts : Bool) (found : Stop) (message : Message) (memory :
 told_outcome true found message memory t f = ap (λ found. outcome_of found memory) (sym (t refl))
 told_outcome false found message memory t f = ap (λ found. outcome_of found memory) (sym (f refl))
 
+pub told_held : (accepts : Bool) (found : Stop) (message : Message) (memory : List ℕ) → (IsTrue accepts → found ≡ stop.Accepted message) → (IsFalse accepts → found ≡ stop.RolledBack message) →
+    message.from + message.size ≤ length memory → IsHeld found memory
+told_held true found message memory t f h = subst (λ s. IsHeld s memory) (sym (t refl)) h
+told_held false found message memory t f h = subst (λ s. IsHeld s memory) (sym (f refl)) h
+
 pub ending_stops : {S : Type 0} (accepts : Bool) (function code size from : ℕ) (below : List ℕ) (found : Stop) (message : Message) (old new : Running) → old.store.words.items ≡ code ∷ size ∷ from ∷ below →
     from + size ≤ length old.store.memory → new.store.memory ≡ old.store.memory → message.code ≡ cast_signed w64 code → message.from ≡ from → message.size ≡ size →
     (IsTrue accepts → found ≡ stop.Accepted message) → (IsFalse accepts → found ≡ stop.RolledBack message) →
@@ -326,6 +331,7 @@ ending_stops {S} accepts function code size from below found message old new was
       ∙ ap (λ n. outcome_by accepts message.code (text_of new.store.memory n size)) (sym mf) ∙ ap (λ n. outcome_by accepts message.code (text_of new.store.memory message.from n)) (sym ms)
       ∙ told_outcome accepts found message new.store.memory t f,
       refl,
+      told_held accepts found message new.store.memory t f (subst (λ bytes. message.from + message.size ≤ length bytes) (sym keeps) (omega (arith, mf, ms))),
     )
 
 pub ending_goes : {S : Type 0} (accepts : Bool) (function code size from : ℕ) (below : List ℕ) (old new : Running) → old.store.words.items ≡ code ∷ size ∷ from ∷ below →

@@ -119,7 +119,7 @@ trap_follows instruction entry cause old new n acts world c ops ends i h e s =
     let t : IsNoFault (act world instruction region i.around i.region.operands c) =
     unticked (suc c.count) (act world instruction region i.around i.region.operands c) (subst IsNoFault b.step_is s) in
     subst (λ found. Follows ops ends found (Some (stop.Trapped cause)) new c.host)
-    (sym (b.step_is ∙ ap (ticked (suc c.count)) (acts world region i.around i.region.operands c i.holds t))) (refl, refl)
+    (sym (b.step_is ∙ ap (ticked (suc c.count)) (acts world region i.around i.region.operands c i.holds t))) (refl, refl, tt)
 
 -- ---- regions that open
 

@@ -196,7 +196,7 @@ end_returns_step {S} instruction label others old n l is world c ops ends i h s 
 pub returned_follows : {S : Type 0} (ops : List Op) (ends : List ℕ) (found : Step S) (c last : Configuration S) (words : List ℕ) (code : ℤ) (new : Running) → ReturnsTop found last words → last.host ≡ c.host →
     ((word : ℕ) (below : List ℕ) → words ≡ word ∷ below → code ≡ cast_signed w64 word) → Follows ops ends found (Some (stop.Returned code)) new c.host
 returned_follows ops ends found c last words code new r h e =
-    subst (λ s. Follows ops ends s (Some (stop.Returned code)) new c.host) (sym r.is) (ap Returned (sym (e r.word r.below r.words_are)), h)
+    subst (λ s. Follows ops ends s (Some (stop.Returned code)) new c.host) (sym r.is) (ap Returned (sym (e r.word r.below r.words_are)), h, tt)
 
 -- ---- branches
 

@@ -4,3 +4,4 @@ pub mod Flat
 pub mod Numbers
 pub mod Room
 pub mod Running
+pub mod Runs

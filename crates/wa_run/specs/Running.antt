@@ -31,12 +31,18 @@ outcome_of (stop.Returned code) memory = Returned code
 outcome_of (stop.Trapped cause) memory = Trapped cause
 outcome_of (stop.GuardViolated id limit) memory = GuardViolated id limit
 
+-- the text that a stop tells of lies in this memory
+abbrev pub IsHeld : Stop → List ℕ → Type 0
+IsHeld (stop.Accepted message) memory = message.from + message.size ≤ length memory
+IsHeld (stop.RolledBack message) memory = message.from + message.size ≤ length memory
+IsHeld other memory = Unit {0}
+
 -- a turn's answer and the run after it are those of a step, and so is the host
 abbrev pub Follows : {S : Type 0} → List Op → List ℕ → Step S → Option Stop → Running → S → Type 0
 Follows ops ends (next c) None running host = Is ops ends c running × (c.host ≡ host)
 Follows ops ends (next c) (Some found) running host = ⊥
 Follows ops ends (ended outcome c) None running host = ⊥
-Follows ops ends (ended outcome c) (Some found) running host = (outcome ≡ outcome_of found running.store.memory) × (c.host ≡ host)
+Follows ops ends (ended outcome c) (Some found) running host = (outcome ≡ outcome_of found running.store.memory) × (c.host ≡ host) × IsHeld found running.store.memory
 Follows ops ends fault found running host = ⊥
 
 -- in each configuration where the run stands before this instruction, with this entry of the table of ends, the turn is the machine's step

@@ -10,6 +10,7 @@ mod labels;
 mod memory_access;
 mod numbers;
 mod running;
+mod runs;
 mod store;
 mod turns;
 mod words;
