@@ -7,5 +7,6 @@ pub mod Branching
 pub mod Choosing
 pub mod Calling
 pub mod Turning
+pub mod Ending
 pub mod Numeric
 pub mod Accesses
