@@ -10,3 +10,5 @@ pub mod Turning
 pub mod Ending
 pub mod Numeric
 pub mod Accesses
+pub mod Told
+pub mod Starting

@@ -5,3 +5,4 @@ pub mod Numbers
 pub mod Room
 pub mod Running
 pub mod Runs
+pub mod Starts

@@ -3,7 +3,9 @@
 #![tactic(auto)]
 
 mod calls;
+mod ended;
 mod guards;
+mod instance;
 mod instructions;
 mod label;
 mod labels;
@@ -14,3 +16,6 @@ mod runs;
 mod store;
 mod turns;
 mod words;
+
+pub use ended::Ended;
+pub use instance::Instance;
