@@ -1,5 +1,11 @@
 -- What a run begins with, and what its ending is.
-use Rattle.std.specs.Prelude.{ℕ, ◌≡◌, ◌+◌, ◌*◌, ◌^◌, ◌<◌, ◌≤◌, List, [], ◌∷◌, Some, true, length}
+use Rattle.std.specs.Prelude.{ℕ, ◌≡◌, ◌+◌, ◌*◌, ◌^◌, ◌<◌, ◌≤◌, List, [], ◌∷◌, Some, true, length, map, replicate, fold}
+use Rattle.std.specs.Int.{cast_unsigned, w32, w64}
+use Rattle.wa_num.specs.Memory.{written}
+use Rattle.wa_ops.specs.HookRules.{address_of}
+use Rattle.wa_ops.specs.declared.modules.ModuleGlobal.{ModuleGlobal}
+use Rattle.wa_ops.specs.declared.modules.Segment.{Segment}
+use Rattle.wa_ops.specs.declared.op.Op.TheVariants as op
 use Rattle.hk_base.specs.declared.outcome.Outcome.{Outcome}
 use Rattle.wa_ops.specs.Bound.{bound, IsGuarded}
 use Rattle.wa_ops.specs.Ends.{ends_of}
@@ -80,3 +86,35 @@ pub record IsFresh (running : Running) : Type 0 where
   pub labels : running.labels.items ≡ body_label ∷ []
   pub guards : running.guards.items ≡ []
   pub memory : length running.store.memory ≤ 1048576
+
+-- ---- what a module gives a run
+
+-- the number of the constant that an expression begins with
+abbrev pub constant_word : Op → ℕ
+constant_word (op.I32Const n) = cast_unsigned w32 n
+constant_word (op.I64Const n) = cast_unsigned w64 n
+constant_word instruction = 0
+
+abbrev pub first_word : List Op → ℕ
+first_word [] = 0
+first_word (instruction ∷ ops) = constant_word instruction
+
+-- the place that an expression begins with
+abbrev pub first_place : List Op → ℕ
+first_place [] = 0
+first_place (instruction ∷ ops) = address_of instruction
+
+-- the argument, and a zero for each other local
+abbrev pub first_locals : ℕ → ℕ → List ℕ
+first_locals argument count = argument ∷ replicate count 0
+
+-- each global's constant
+abbrev pub first_globals : List ModuleGlobal → List ℕ
+first_globals globals = map (λ global. first_word global.init) globals
+
+-- the segments are written in order
+abbrev pub with_segments : List ℕ → List Segment → List ℕ
+with_segments memory segments = fold (λ bytes segment. written bytes (first_place segment.offset) segment.bytes) memory segments
+
+abbrev pub first_memory : ℕ → List Segment → List ℕ
+first_memory pages segments = with_segments (replicate (pages * 65536) 0) segments

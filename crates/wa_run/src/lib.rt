@@ -4,6 +4,7 @@
 
 mod calls;
 mod ended;
+mod first_values;
 mod guards;
 mod instance;
 mod instructions;
