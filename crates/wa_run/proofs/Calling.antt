@@ -328,8 +328,8 @@ ending_stops {S} accepts function code size from below found message old new was
     let memory : c.memory ≡ new.store.memory = sym i.holds.memory_is ∙ sym keeps in
     subst (λ found_step. Follows ops ends found_step (Some found) new c.host) (sym p) (
       ap (λ n. outcome_by accepts n (text_of c.memory from size)) (sym mc) ∙ ap (λ bytes. outcome_by accepts message.code (text_of bytes from size)) memory
-      ∙ ap (λ n. outcome_by accepts message.code (text_of new.store.memory n size)) (sym mf) ∙ ap (λ n. outcome_by accepts message.code (text_of new.store.memory message.from n)) (sym ms)
-      ∙ told_outcome accepts found message new.store.memory t f,
+          ∙ ap (λ n. outcome_by accepts message.code (text_of new.store.memory n size)) (sym mf) ∙ ap (λ n. outcome_by accepts message.code (text_of new.store.memory message.from n)) (sym ms)
+          ∙ told_outcome accepts found message new.store.memory t f,
       refl,
       told_held accepts found message new.store.memory t f (subst (λ bytes. message.from + message.size ≤ length bytes) (sym keeps) (omega (arith, mf, ms))),
     )
@@ -410,7 +410,7 @@ ask_follows {S} meaning row function parameters arguments word old before new af
     let region : Region = record i.region { rest = a.rest } in
     let go : HostMeaning S → S → List ℕ → List ℕ → Step S =
     λ meaning host arguments memory. onward region i.around (word64 (cast_unsigned w64 (meaning.answer host row arguments memory)) ∷ a.left)
-        (record c { memory = meaning.memory_after host row arguments memory; host = meaning.state_after host row arguments memory }) in
+    (record c { memory = meaning.memory_after host row arguments memory; host = meaning.state_after host row arguments memory }) in
     let p : step world c ≡ ticked (suc c.count) (go meaning before arguments old.store.memory) =
     a.step_is ∙ ap (λ x. ticked (suc c.count) (go x c.host (map word_of (reverse a.taken)) c.memory)) m ∙ ap (λ x. ticked (suc c.count) (go meaning x (map word_of (reverse a.taken)) c.memory)) b
     ∙ ap (λ x. ticked (suc c.count) (go meaning before x c.memory)) (sym given) ∙ ap (λ x. ticked (suc c.count) (go meaning before arguments x)) (sym i.holds.memory_is) in

@@ -17,7 +17,12 @@ impl Running {
     /// # Errors
     ///
     /// `NoMemory`, only from a host whose calls can want memory. The run is then of no further use.
-    pub(crate) fn call<H: Host>(&mut self, calls: &[CallNo], function: u32, host: &mut H) -> Result<Option<Stop>, NoMemory>
+    pub(crate) fn call<H: Host>(
+        &mut self,
+        calls: &[CallNo],
+        function: u32,
+        host: &mut H,
+    ) -> Result<Option<Stop>, NoMemory>
         requires rows { AreRows calls.now }
         requires meets { (ops : List Op) × (ends : List ℕ) × (slice_get ops self.old.at ≡ Some (Op.Call function)) × CanGo H ops ends calls.now self.old }
         requires place { self.old.at < 2 ^ 63 }
@@ -88,7 +93,12 @@ impl Running {
     /// # Errors
     ///
     /// `NoMemory`, only from a host whose calls can want memory. The run is then of no further use.
-    pub(crate) fn ask<H: Host>(&mut self, function: u32, number: CallNo, host: &mut H) -> Result<(), NoMemory>
+    pub(crate) fn ask<H: Host>(
+        &mut self,
+        function: u32,
+        number: CallNo,
+        host: &mut H,
+    ) -> Result<(), NoMemory>
         requires first { 3 ≤ number.0 }
         requires last { number.0 ≤ 64 }
         requires meets { CanCall H (host_call number.0 (row_parameters number.0)) function self.old }

@@ -29,14 +29,21 @@ pub(crate) fn first_globals(alloc: Global, globals: &[ModuleGlobal]) -> Result<V
 }
 
 /// A memory of so many pages with the data in it.
-pub(crate) fn first_memory(alloc: Global, pages: u32, segments: &[Segment]) -> Result<Memory, NoMemory>
+pub(crate) fn first_memory(
+    alloc: Global,
+    pages: u32,
+    segments: &[Segment],
+) -> Result<Memory, NoMemory>
     requires pages { pages ≤ 16 }
     ensures memory { IfOk result (λ memory. memory ≡ first_memory pages segments.now) }
     ensures length { IfOk result (λ memory. length memory ≡ pages * 65536) }
 {
     let mut memory = Memory::new(alloc, pages)?;
     for segment in segments {
-        memory.write(first_place(segment.offset.as_slice()), segment.bytes.as_slice());
+        memory.write(
+            first_place(segment.offset.as_slice()),
+            segment.bytes.as_slice(),
+        );
     }
     Ok(memory)
 }

@@ -1,5 +1,4 @@
-//! The interpreter of flat code, in part: its memory, the plain instructions on words and variables, and those that open, close
-//! and leave regions. No public call stands on them yet.
+//! The interpreter of flat code: a run of one function of a hook, which is the machine's and ends within its bound.
 #![tactic(auto)]
 
 mod calls;

@@ -15,7 +15,13 @@ impl Running {
     /// # Errors
     ///
     /// `NoMemory`, only from a host whose calls can want memory. The run is then of no further use.
-    pub(crate) fn turn<H: Host>(&mut self, ops: &[Op], ends: &[u32], calls: &[CallNo], host: &mut H) -> Result<Option<Stop>, NoMemory>
+    pub(crate) fn turn<H: Host>(
+        &mut self,
+        ops: &[Op],
+        ends: &[u32],
+        calls: &[CallNo],
+        host: &mut H,
+    ) -> Result<Option<Stop>, NoMemory>
         requires counted { length ops.now < 2 ^ 32 }
         requires paired { length ends.now ≡ length ops.now }
         requires sound { Each IsSoundOp ops.now }

@@ -40,21 +40,21 @@ cut-requires g c = record {
 pub returns-in-Body-clause-branches : goal.returns-in-Body-clause-branches
 returns-in-Body-clause-branches g c =
     λ count d ops ends region around operands b s.
-      returned_follows ops ends _ d (record d { count = count }) c.args.self.now.store.words.items _ (record c.args.self.now { labels = c.close-named.new.self })
-      (branch_returns c.args.label c.close-named.result c.close-named.new.self.items c.args.self.now (sym c.unwind.ensures.items ∙ c.close-named.ensures.items) c.in-Body.is count d ops ends region around operands b s) refl
-      (λ word below p. to_z-of_z w64 c.cast_signed.result (search rules) ∙ c.cast_signed.ensures ∙ ap (cast_signed w64) (c.top.ensures.top word below p))
+    returned_follows ops ends _ d (record d { count = count }) c.args.self.now.store.words.items _ (record c.args.self.now { labels = c.close-named.new.self })
+    (branch_returns c.args.label c.close-named.result c.close-named.new.self.items c.args.self.now (sym c.unwind.ensures.items ∙ c.close-named.ensures.items) c.in-Body.is count d ops ends region around operands b s) refl
+    (λ word below p. to_z-of_z w64 c.cast_signed.result (search rules) ∙ c.cast_signed.ensures ∙ ap (cast_signed w64) (c.top.ensures.top word below p))
 
 pub returns-in-Inner-clause-branches : goal.returns-in-Inner-clause-branches
 returns-in-Inner-clause-branches g c =
     branch_inner_follows c.args.label c.close-named.result c.close-named.new.self.items c.args.self.now
-      (record c.args.self.now { at = c.close-named.result.last + 1; labels = c.close-named.new.self; store = record c.args.self.now.store { words = c.carry.new.self } })
-      (sym c.unwind.ensures.items ∙ c.close-named.ensures.items) c.in-Inner.is refl refl (record { locals = refl; globals = refl; memory = refl }) c.carry.ensures.items refl
+    (record c.args.self.now { at = c.close-named.result.last + 1; labels = c.close-named.new.self; store = record c.args.self.now.store { words = c.carry.new.self } })
+    (sym c.unwind.ensures.items ∙ c.close-named.ensures.items) c.in-Inner.is refl refl (record { locals = refl; globals = refl; memory = refl }) c.carry.ensures.items refl
 
 pub returns-in-Loop-clause-branches : goal.returns-in-Loop-clause-branches
 returns-in-Loop-clause-branches g c =
     branch_loop_follows c.args.label c.in-Loop.start c.close-named.result c.close-named.new.self.items c.args.self.now
-      (record c.args.self.now { at = c.in-Loop.start; labels = c.open.new.self; store = record c.args.self.now.store { words = c.cut.new.self } })
-      (sym c.unwind.ensures.items ∙ c.close-named.ensures.items) c.in-Loop.is refl c.open.ensures.items (record { locals = refl; globals = refl; memory = refl }) c.cut.ensures.items refl
+    (record c.args.self.now { at = c.in-Loop.start; labels = c.open.new.self; store = record c.args.self.now.store { words = c.cut.new.self } })
+    (sym c.unwind.ensures.items ∙ c.close-named.ensures.items) c.in-Loop.is refl c.open.ensures.items (record { locals = refl; globals = refl; memory = refl }) c.cut.ensures.items refl
 
 pub returns-in-Body-clause-grows : goal.returns-in-Body-clause-grows
 returns-in-Body-clause-grows g c = record {

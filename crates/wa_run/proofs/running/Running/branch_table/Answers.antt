@@ -13,5 +13,5 @@ branch-self-requires-clause-branches g c =
 pub returns-clause-turns : goal.returns-clause-turns
 returns-clause-turns g c =
     λ entry.
-      br_table_branches c.args.labels.now c.args.last c.label_of.result entry c.pop-index.result c.args.self.now (record c.args.self.now { store = record c.args.self.now.store { words = c.pop-index.new.self } }) c.branch-self.result c.branch-self.new.self
-      (record { words = c.pop-index.ensures.items; keeps = record { locals = refl; globals = refl; memory = refl }; labels = refl; guards = refl }) c.label_of.ensures.label c.branch-self.ensures.branches
+    br_table_branches c.args.labels.now c.args.last c.label_of.result entry c.pop-index.result c.args.self.now (record c.args.self.now { store = record c.args.self.now.store { words = c.pop-index.new.self } }) c.branch-self.result c.branch-self.new.self
+    (record { words = c.pop-index.ensures.items; keeps = record { locals = refl; globals = refl; memory = refl }; labels = refl; guards = refl }) c.label_of.ensures.label c.branch-self.ensures.branches

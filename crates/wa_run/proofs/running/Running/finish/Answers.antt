@@ -19,14 +19,14 @@ pop_narrow-from-requires g c = record {
 pub returns-in-Some-clause-turns : goal.returns-in-Some-clause-turns
 returns-in-Some-clause-turns g c =
     ending_stops c.args.accepts c.args.function c.pop.result c.pop_narrow-size.result c.pop_narrow-from.result c.pop_narrow-from.new.self.items c.told.result
-      (record { code = to_z w64 (of_z w64 c.cast_signed-code.result); from = c.pop_narrow-from.result; size = c.pop_narrow-size.result }) c.args.self.now
-      (record c.args.self.now { store = record c.args.self.now.store { words = c.pop_narrow-from.new.self } })
-      (c.pop.ensures.items ∙ ap (λ words. c.pop.result ∷ words) (c.pop_narrow-size.ensures.items ∙ ap (λ words. c.pop_narrow-size.result ∷ words) c.pop_narrow-from.ensures.items))
-      c.in-Some.ensures.bytes.0 refl (to_z-of_z w64 c.cast_signed-code.result (search rules) ∙ c.cast_signed-code.ensures) refl refl c.told.ensures.accepts c.told.ensures.rolls_back
+    (record { code = to_z w64 (of_z w64 c.cast_signed-code.result); from = c.pop_narrow-from.result; size = c.pop_narrow-size.result }) c.args.self.now
+    (record c.args.self.now { store = record c.args.self.now.store { words = c.pop_narrow-from.new.self } })
+    (c.pop.ensures.items ∙ ap (λ words. c.pop.result ∷ words) (c.pop_narrow-size.ensures.items ∙ ap (λ words. c.pop_narrow-size.result ∷ words) c.pop_narrow-from.ensures.items))
+    c.in-Some.ensures.bytes.0 refl (to_z-of_z w64 c.cast_signed-code.result (search rules) ∙ c.cast_signed-code.ensures) refl refl c.told.ensures.accepts c.told.ensures.rolls_back
 
 pub returns-in-None-clause-turns : goal.returns-in-None-clause-turns
 returns-in-None-clause-turns g c =
     ending_goes c.args.accepts c.args.function c.pop.result c.pop_narrow-size.result c.pop_narrow-from.result c.pop_narrow-from.new.self.items c.args.self.now
-      (record c.args.self.now { at = c.args.self.now.at + 1; store = record c.args.self.now.store { words = c.push.new.self } })
-      (c.pop.ensures.items ∙ ap (λ words. c.pop.result ∷ words) (c.pop_narrow-size.ensures.items ∙ ap (λ words. c.pop_narrow-size.result ∷ words) c.pop_narrow-from.ensures.items))
-      c.in-None.ensures.bytes c.push.ensures.items (record { locals = refl; globals = refl; memory = refl }) refl refl refl
+    (record c.args.self.now { at = c.args.self.now.at + 1; store = record c.args.self.now.store { words = c.push.new.self } })
+    (c.pop.ensures.items ∙ ap (λ words. c.pop.result ∷ words) (c.pop_narrow-size.ensures.items ∙ ap (λ words. c.pop_narrow-size.result ∷ words) c.pop_narrow-from.ensures.items))
+    c.in-None.ensures.bytes c.push.ensures.items (record { locals = refl; globals = refl; memory = refl }) refl refl refl

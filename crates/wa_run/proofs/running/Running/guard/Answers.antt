@@ -11,19 +11,19 @@ pop_narrow-id-requires g c = record { narrow = other_narrow _ _ c.pop_narrow-lim
 pub returns-then-limit-passes-clause-turns : goal.returns-then-limit-passes-clause-turns
 returns-then-limit-passes-clause-turns g c =
     guard_stops c.args.function c.pop_narrow-limit.result c.pop_narrow-id.result c.pop_narrow-id.new.self.items c.args.self.now
-      (record c.args.self.now { store = record c.args.self.now.store { words = c.pop_narrow-id.new.self }; guards = c.pass.new.self })
-      (c.pop_narrow-limit.ensures.items ∙ ap (λ words. c.pop_narrow-limit.result ∷ words) c.pop_narrow-id.ensures.items)
-      (subst (λ n. c.pop_narrow-limit.result ≤ n) c.passes-passes.ensures.passes (omega arith))
+    (record c.args.self.now { store = record c.args.self.now.store { words = c.pop_narrow-id.new.self }; guards = c.pass.new.self })
+    (c.pop_narrow-limit.ensures.items ∙ ap (λ words. c.pop_narrow-limit.result ∷ words) c.pop_narrow-id.ensures.items)
+    (subst (λ n. c.pop_narrow-limit.result ≤ n) c.passes-passes.ensures.passes (omega arith))
 
 pub returns-clause-turns : goal.returns-clause-turns
 returns-clause-turns g c =
     guard_goes c.args.function c.pop_narrow-limit.result c.pop_narrow-id.result c.pop_narrow-id.new.self.items c.args.self.now
-      (record c.args.self.now { at = c.args.self.now.at + 1; store = record c.args.self.now.store { words = c.push.new.self }; guards = c.pass.new.self })
-      (record {
-        words = c.pop_narrow-limit.ensures.items ∙ ap (λ words. c.pop_narrow-limit.result ∷ words) c.pop_narrow-id.ensures.items;
-        keeps = record { locals = refl; globals = refl; memory = refl };
-        labels = refl;
-        guards = c.pass.ensures.items;
-      })
-      (subst (λ n. n < c.pop_narrow-limit.result) c.passes-passes.ensures.passes (omega arith))
-      c.push.ensures.items refl
+    (record c.args.self.now { at = c.args.self.now.at + 1; store = record c.args.self.now.store { words = c.push.new.self }; guards = c.pass.new.self })
+    (record {
+      words = c.pop_narrow-limit.ensures.items ∙ ap (λ words. c.pop_narrow-limit.result ∷ words) c.pop_narrow-id.ensures.items;
+      keeps = record { locals = refl; globals = refl; memory = refl };
+      labels = refl;
+      guards = c.pass.ensures.items;
+    })
+    (subst (λ n. n < c.pop_narrow-limit.result) c.passes-passes.ensures.passes (omega arith))
+    c.push.ensures.items refl

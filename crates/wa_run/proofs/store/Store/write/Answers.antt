@@ -15,7 +15,7 @@ pop-address-requires g c = record {
 pub overflow_cast-address : goal.overflow_cast-address
 overflow_cast-address g c =
     let t = (write_needs _ c.args.opcode c.requires.meets.0 c.args.offset c.args.self.now c.requires.meets.1).fit c.pop-word.result c.pop-address.result c.pop-address.new.self.items
-        (c.pop-word.ensures.items ∙ ap (λ words. c.pop-word.result ∷ words) c.pop-address.ensures.items) in
+    (c.pop-word.ensures.items ∙ ap (λ words. c.pop-word.result ∷ words) c.pop-address.ensures.items) in
     omega (arith, t)
 
 pub returns-then-store-clause-acts : goal.returns-then-store-clause-acts
