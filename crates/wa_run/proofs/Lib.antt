@@ -12,3 +12,4 @@ pub mod Numeric
 pub mod Accesses
 pub mod Told
 pub mod Starting
+pub mod Sampling

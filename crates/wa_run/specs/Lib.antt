@@ -6,3 +6,4 @@ pub mod Room
 pub mod Running
 pub mod Runs
 pub mod Starts
+pub mod Samples

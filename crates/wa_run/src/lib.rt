@@ -14,6 +14,8 @@ mod numbers;
 mod running;
 mod runs;
 mod store;
+#[cfg(test)]
+mod tests;
 mod turns;
 mod words;
 
