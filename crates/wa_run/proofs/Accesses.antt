@@ -1,12 +1,11 @@
 -- Loads and stores on words, against those on typed operands.
-use Rattle.std.proofs.Common.{◌≡◌, ◌+◌, ◌^◌, ◌<◌, ◌≤◌, ◌==◌, ◌||◌, ℕ, List, [], ◌∷◌, ◌++◌, Option, Some, None, Bool, true, false, IsTrue, if◌then◌else◌, length, take, drop, sym, ◌∙◌, ap, subst, refl, arith}
+use Rattle.std.proofs.Common.{◌≡◌, ◌+◌, ◌^◌, ◌<◌, ◌≤◌, ◌==◌, ◌||◌, ℕ, List, [], ◌∷◌, ◌++◌, Some, None, Bool, true, false, IsTrue, if◌then◌else◌, length, take, drop, sym, ◌∙◌, ap, subst, refl, arith}
 use Rattle.std.proofs.lemmas.Bool.{leb-true, le-leb}
 use Rattle.std.proofs.lemmas.List.{length-append, length-take-le, length-drop}
 use Rattle.hk_base.specs.declared.outcome.Outcome.TheVariants.{Trapped}
 use Rattle.hk_base.specs.declared.outcome.Trap.TheVariants as trap
 use Rattle.wa_num.specs.Memory.{fits, loaded, cells, written}
 use Rattle.wa_ops.specs.declared.op.Op.TheVariants as op
-use Rattle.wa_ops.specs.declared.op.ValueType.{ValueType}
 use Rattle.wa_ops.specs.declared.op.ValueType.TheVariants.{I32, I64}
 use Rattle.wa_ops.specs.declared.opcode.Form.TheVariants as forms
 use Rattle.wa_ops.specs.Accesses.{load_type, load_width, is_signed_load, store_type, store_width}
@@ -14,7 +13,7 @@ use Rattle.wa_ops.specs.Opcodes.{is_load, is_store, is_float_access, is_number, 
 use Rattle.wa_machine.specs.Law.{types_of}
 use Rattle.wa_machine.specs.Machine as machine
 use Rattle.wa_machine.specs.Machine.{Value, word32, word64, type_of, word_of, value_of, first, second, extended, Region, Configuration, World, Step, ended, onward, act}
-use Rattle.wa_run.specs.Flat.{words_of, all_words, IsValue, AllValues}
+use Rattle.wa_run.specs.Flat.{words_of, all_words, AllValues}
 use Rattle.wa_run.specs.Acts.{Holds, IsNoFault, Meets, GoesOn}
 use Rattle.wa_run.specs.declared.store.Store.{Store}
 use Rattle.wa_run.proofs.Plain.{FindsAll, found_all, FindsWord, found_word, Keeps, with_words}

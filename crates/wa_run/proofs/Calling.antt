@@ -1,5 +1,5 @@
 -- The calls of imports: what they take, and what they leave of the run.
-use Rattle.std.proofs.Common.{◌≡◌, ◌+◌, ◌-◌, ◌^◌, ◌<◌, ◌≤◌, ◌==◌, ℕ, zero, suc, ℤ, List, [], ◌∷◌, ◌++◌, Option, Some, None, Bool, true, false, if◌then◌else◌, nat_lt, nat_le, cond, IsTrue, IsFalse, length, map, take, drop, reverse, slice_get, slice_index_or, sym, ◌∙◌, ap, subst, refl, arith, append_assoc}
+use Rattle.std.proofs.Common.{◌≡◌, ◌+◌, ◌-◌, ◌^◌, ◌<◌, ◌≤◌, ◌==◌, ℕ, zero, suc, ℤ, List, [], ◌∷◌, ◌++◌, Option, Some, None, Bool, true, false, if◌then◌else◌, nat_lt, cond, IsTrue, IsFalse, length, map, take, drop, reverse, slice_get, slice_index_or, sym, ◌∙◌, ap, subst, refl, arith, append_assoc}
 use Rattle.std.proofs.lemmas.Bool.Decides.{nat_tests}
 use Rattle.std.proofs.lemmas.Option.{slice_get-get_or}
 use Rattle.std.proofs.lemmas.List.{take_at, drop_at, length-reverse, length-append, map-append, reverse-append}
@@ -18,8 +18,8 @@ use Rattle.wa_ops.specs.declared.op.ValueType.TheVariants.{I32, I64}
 use Rattle.wa_ops.specs.Sequences.{Sequence}
 use Rattle.wa_num.specs.Memory.{fits}
 use Rattle.wa_machine.specs.Law.{types_of}
-use Rattle.wa_machine.specs.Machine.{Value, word32, word64, word_of, Region, Configuration, World, HostMeaning, Step, ended, onward, with_some, with_all, text_of, end_with, counted, pass, call, act, ticked, step}
-use Rattle.wa_run.specs.Acts.{Holds, IsNoFault}
+use Rattle.wa_machine.specs.Machine.{Value, word32, word64, word_of, Region, Configuration, World, HostMeaning, Step, ended, onward, with_some, with_all, text_of, counted, pass, call, act, ticked, step}
+use Rattle.wa_run.specs.Acts.{IsNoFault}
 use Rattle.wa_run.specs.Calls.{AreRows, Asks, CallsIt, CanCall, CanGo, Goes, callees_of, ending_of}
 use Rattle.wa_run.specs.Flat.{words_of, all_words, AllValues, IsNarrow, Standing}
 use Rattle.wa_run.specs.Room.{passes_of}

@@ -1,5 +1,5 @@
 -- A run of turns against the machine's run: each of its endings is the ending of what is left of it.
-use Rattle.std.proofs.Common.{◌≡◌, ◌+◌, ◌<◌, ◌≤◌, ℕ, zero, suc, List, Option, Some, None, sym, ◌∙◌, ap, subst, refl, arith}
+use Rattle.std.proofs.Common.{◌≡◌, ◌+◌, ◌<◌, ℕ, zero, suc, List, Option, Some, None, sym, ◌∙◌, ap, subst, refl, arith}
 use Rattle.hk_base.specs.declared.outcome.Outcome.{Outcome}
 use Rattle.wa_ops.specs.declared.call_no.CallNo.{CallNo}
 use Rattle.wa_ops.specs.declared.op.Op.{Op}
@@ -7,7 +7,7 @@ use Rattle.wa_machine.specs.Machine.{Configuration, World, HostMeaning, Step, ne
 use Rattle.wa_run.specs.Acts.{IsNoFault}
 use Rattle.wa_run.specs.Calls.{IsIn, CanGo, Goes}
 use Rattle.wa_run.specs.Running.{Is, outcome_of, IsHeld, Follows}
-use Rattle.wa_run.specs.Runs.{CanEnd, StopsAs, Stops}
+use Rattle.wa_run.specs.Runs.{CanEnd, Stops}
 use Rattle.wa_run.specs.declared.running.Running.{Running}
 use Rattle.wa_run.specs.declared.running.Stop.{Stop}
 use Rattle.wa_run.specs.declared.runs.Stopped.{Stopped}

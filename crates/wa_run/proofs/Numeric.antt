@@ -9,10 +9,10 @@ use Rattle.wa_ops.specs.declared.opcode.Form.TheVariants as forms
 use Rattle.wa_ops.specs.Accesses.{number_takes, number_gives}
 use Rattle.wa_ops.specs.Opcodes.{is_load, is_store, is_float_access, is_number, is_float_number, form_at}
 use Rattle.wa_machine.specs.Law.{types_of}
-use Rattle.wa_machine.specs.Machine.{Value, word32, word64, type_of, word_of, value_of, first, second, numeric, finish, Region, Configuration, World, Step, ended, onward, act}
+use Rattle.wa_machine.specs.Machine.{Value, word32, word64, word_of, value_of, first, second, numeric, finish, Region, Configuration, World, Step, ended, act}
 use Rattle.wa_run.specs.Flat.{words_of, all_words, IsValue, AllValues}
 use Rattle.wa_run.specs.Acts.{Holds, IsNoFault, Meets, GoesOn}
-use Rattle.wa_run.specs.Numbers.{is_narrow, kinds_of, taken_words}
+use Rattle.wa_run.specs.Numbers.{kinds_of, taken_words}
 use Rattle.wa_run.specs.declared.store.Store.{Store}
 use Rattle.wa_run.proofs.Plain.{FindsAll, found_all, Keeps, with_words}
 use Rattle.wa_run.proofs.Leaving.{words_append}

@@ -1,6 +1,5 @@
 -- A run that begins stands where the machine does before its first step.
-use Rattle.std.proofs.Common.{◌≡◌, ◌+◌, ◌<◌, ◌≤◌, ℕ, suc, List, [], ◌∷◌, ◌++◌, inl, Some, length, drop, sym, ◌∙◌, ap, subst, refl, arith}
-use Rattle.hk_base.specs.declared.outcome.Outcome.{Outcome}
+use Rattle.std.proofs.Common.{◌≡◌, ◌+◌, ◌≤◌, ℕ, suc, List, [], ◌∷◌, inl, length, sym, ◌∙◌, ap, subst, refl, arith}
 use Rattle.wa_ops.specs.Bound.{bound}
 use Rattle.wa_ops.specs.Ends.{behind, ends_of}
 use Rattle.wa_ops.specs.Sequences.{Sequence, done, plain, block, loop, if_then, if_else, flat}
@@ -8,13 +7,12 @@ use Rattle.wa_ops.specs.declared.call_no.CallNo.{CallNo}
 use Rattle.wa_ops.specs.declared.op.Op.{Op}
 use Rattle.wa_ops.specs.declared.op.Op.TheVariants as op
 use Rattle.wa_machine.specs.Law.{EndsWithin, WithinBound}
-use Rattle.wa_machine.specs.Machine.{Region, body, Configuration, World, HostMeaning, Ends}
-use Rattle.wa_run.specs.Calls.{IsIn}
-use Rattle.wa_run.specs.Flat.{words_of, Standing, has_result, AllMark}
+use Rattle.wa_machine.specs.Machine.{Region, body, HostMeaning, Ends}
+use Rattle.wa_run.specs.Flat.{Standing, has_result, AllMark}
 use Rattle.wa_run.specs.Room.{passes_of}
 use Rattle.wa_run.specs.Running.{Is, outcome_of}
 use Rattle.wa_run.specs.Runs.{CanEnd, StopsAs, Stops}
-use Rattle.wa_run.specs.Starts.{Ready, Function, CanRun, world_of, first_of, EndsSo, body_label, IsFresh}
+use Rattle.wa_run.specs.Starts.{Ready, Function, CanRun, world_of, first_of, EndsSo, IsFresh}
 use Rattle.wa_run.specs.declared.running.Running.{Running}
 use Rattle.wa_run.specs.declared.runs.Stopped.{Stopped}
 

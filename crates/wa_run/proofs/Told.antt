@@ -1,5 +1,5 @@
 -- The text of a message.
-use Rattle.std.proofs.Common.{◌≡◌, ℕ, zero, suc, List, [], ◌∷◌, min, take, drop, ap, sym, ◌∙◌, arith, refl}
+use Rattle.std.proofs.Common.{◌≡◌, ℕ, zero, suc, List, [], ◌∷◌, min, take, drop, ap, sym, arith, refl}
 use Rattle.wa_machine.specs.Machine.{text_of}
 
 pub take_none : (m : ℕ) → take {A = ℕ} m [] ≡ []

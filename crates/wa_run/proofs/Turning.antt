@@ -1,5 +1,5 @@
 -- All instructions, by what each does.
-use Rattle.std.proofs.Common.{◌≡◌, ◌+◌, ◌<◌, ◌≤◌, ℕ, ℤ, zero, suc, List, [], ◌∷◌, Option, Some, None, length, drop, get_or, slice_get, slice_index_or, Result, Ok, Err, IfOk, sym, ◌∙◌, subst, refl, ap, arith, length-drop}
+use Rattle.std.proofs.Common.{◌≡◌, ◌<◌, ◌≤◌, ℕ, ℤ, zero, suc, List, [], ◌∷◌, Option, Some, None, length, get_or, slice_get, slice_index_or, Result, Ok, Err, IfOk, sym, ◌∙◌, subst, refl, ap, arith, length-drop}
 use Rattle.std.proofs.lemmas.Option.{slice_get-get_or, slice_get_read}
 use Rattle.wa_ops.specs.declared.op.Op.{Op}
 use Rattle.wa_ops.specs.declared.op.Op.TheVariants as op
@@ -7,9 +7,9 @@ use Rattle.wa_ops.specs.declared.call_no.CallNo.{CallNo}
 use Rattle.wa_ops.specs.declared.op.ValueType.{ValueType}
 use Rattle.wa_ops.specs.Sequences.{Sequence, done, plain, block, loop, if_then, if_else, nesting, stands, flat}
 use Rattle.wa_ops.specs.Soundness.{Each}
-use Rattle.wa_machine.specs.Machine.{Value, Region, Configuration, World, HostMeaning, onward, act, step}
-use Rattle.wa_run.specs.Flat.{all_words, Standing}
-use Rattle.wa_run.specs.Acts.{Holds, IsNoFault, IsPlain, Meets, GoesOn, Acts}
+use Rattle.wa_machine.specs.Machine.{Value, Region, Configuration, World, HostMeaning, act, step}
+use Rattle.wa_run.specs.Flat.{Standing}
+use Rattle.wa_run.specs.Acts.{IsNoFault, IsPlain, Meets, Acts}
 use Rattle.wa_run.specs.Calls.{CanGo, Goes}
 use Rattle.wa_run.specs.Running.{Is, Follows, Turns, CanTurn, IsArm, Chooses}
 use Rattle.wa_run.specs.declared.running.Running.{Running}

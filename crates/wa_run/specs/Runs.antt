@@ -5,7 +5,7 @@ use Rattle.wa_ops.specs.declared.call_no.CallNo.{CallNo}
 use Rattle.wa_ops.specs.declared.op.Op.{Op}
 use Rattle.wa_machine.specs.Machine.{Configuration, World, HostMeaning, Ends}
 use Rattle.wa_run.specs.Calls.{IsIn}
-use Rattle.wa_run.specs.Running.{Is, outcome_of, IsHeld}
+use Rattle.wa_run.specs.Running.{Is, outcome_of}
 use Rattle.wa_run.specs.declared.running.Running.{Running}
 use Rattle.wa_run.specs.declared.runs.Stopped.{Stopped}
 

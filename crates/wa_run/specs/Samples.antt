@@ -1,5 +1,5 @@
 -- Functions of tests: with the argument 0, no other locals and no globals.
-use Rattle.std.specs.Prelude.{ℕ, ◌≡◌, ◌^◌, ◌<◌, ◌≤◌, List, [], ◌∷◌, Some, true, length}
+use Rattle.std.specs.Prelude.{◌^◌, ◌<◌, ◌≤◌, List, [], ◌∷◌, Some, true, length}
 use Rattle.wa_ops.specs.Bound.{bound, IsGuarded}
 use Rattle.wa_ops.specs.Sequences.{Sequence, Reads}
 use Rattle.wa_ops.specs.Soundness.{Each, IsSoundOp}

@@ -1,5 +1,5 @@
 -- What a run begins with, and what its ending is.
-use Rattle.std.specs.Prelude.{ℕ, ◌≡◌, ◌+◌, ◌*◌, ◌^◌, ◌<◌, ◌≤◌, List, [], ◌∷◌, Some, true, length, map, replicate, fold}
+use Rattle.std.specs.Prelude.{ℕ, ◌≡◌, ◌*◌, ◌^◌, ◌<◌, ◌≤◌, List, [], ◌∷◌, Some, true, length, map, replicate, fold}
 use Rattle.std.specs.Int.{cast_unsigned, w32, w64}
 use Rattle.wa_num.specs.Memory.{written}
 use Rattle.wa_ops.specs.HookRules.{address_of}

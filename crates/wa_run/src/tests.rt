@@ -28,7 +28,12 @@ impl Host for Seven {
 
     ghost keeps_length = { λ _ _ _ _. refl };
 
-    fn call(&mut self, _number: CallNo, _arguments: &[u64], _memory: &mut Memory) -> Result<i64, NoMemory> {
+    fn call(
+        &mut self,
+        _number: CallNo,
+        _arguments: &[u64],
+        _memory: &mut Memory,
+    ) -> Result<i64, NoMemory> {
         Ok(7)
     }
 }
@@ -53,7 +58,9 @@ fn accept_and_rollback_end_the_run(rt: HostRuntime) -> Result<(), Fail> {
     ];
     let accepted = ended(rt.alloc(), &accepts, &CALLS)?;
     assert_eq!(rt; accepted.count, 4);
-    assert!(rt; matches!(&accepted.outcome, Outcome::Accepted { code: 3, text } if text.len() == 2));
+    assert!(rt;
+        matches!(&accepted.outcome, Outcome::Accepted { code: 3, text } if text.len() == 2)
+    );
     let outside = [
         Op::I32Const(65_535),
         Op::I32Const(2),
@@ -82,7 +89,12 @@ fn the_refused_pass(rt: HostRuntime) -> Result<(), Fail> {
     ];
     let violated = ended(rt.alloc(), &turns, &CALLS)?;
     assert_eq!(rt; violated.count, 14);
-    assert!(rt; matches!(&violated.outcome, Outcome::GuardViolated { id: 1, limit: 2 }));
+    assert!(rt;
+        matches!(
+            &violated.outcome,
+            Outcome::GuardViolated { id: 1, limit: 2 }
+        )
+    );
     Ok(())
 }
 

@@ -1,4 +1,4 @@
-use Rattle.std.proofs.Common.{◌≡◌, ◌++◌, [], take, drop, ap, arith, rules, sym, ◌∙◌}
+use Rattle.std.proofs.Common.{◌++◌, ap, rules, ◌∙◌}
 use Rattle.wa_run.proofs.Told.{text_cut}
 use Rattle.wa_run.proofs.ended.copied.Goals as goal
 

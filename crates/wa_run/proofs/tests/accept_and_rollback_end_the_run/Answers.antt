@@ -1,4 +1,4 @@
-use Rattle.std.proofs.Common.{pos, ◌∙◌}
+use Rattle.std.proofs.Common.{pos}
 use Rattle.wa_run.proofs.Sampling.{tells, accepts, outside}
 use Rattle.wa_run.proofs.tests.accept_and_rollback_end_the_run.Goals as goal
 

@@ -1,4 +1,4 @@
-use Rattle.std.proofs.Common.{rules, ◌∙◌}
+use Rattle.std.proofs.Common.{rules}
 use Rattle.wa_run.proofs.Sampling.{carrying, carries_over, skipping, skips}
 use Rattle.wa_run.proofs.tests.branches_and_choices.Goals as goal
 

@@ -1,4 +1,4 @@
-use Rattle.std.proofs.Common.{pos, ◌∙◌}
+use Rattle.std.proofs.Common.{pos}
 use Rattle.wa_run.proofs.Sampling.{tells, asks}
 use Rattle.wa_run.proofs.tests.the_host_answers.Goals as goal
 

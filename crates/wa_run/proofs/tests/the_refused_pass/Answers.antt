@@ -1,4 +1,3 @@
-use Rattle.std.proofs.Common.{pos, ◌∙◌}
 use Rattle.wa_run.proofs.Sampling.{turning, turns_twice}
 use Rattle.wa_run.proofs.tests.the_refused_pass.Goals as goal
 

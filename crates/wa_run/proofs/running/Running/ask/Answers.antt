@@ -1,4 +1,4 @@
-use Rattle.std.proofs.Common.{ℕ, ◌∷◌, length, reverse, take, drop, ◌+◌, rules, refl, ap, arith, sym, ◌∙◌, ◌≤◌, ◌≡◌}
+use Rattle.std.proofs.Common.{◌∷◌, length, reverse, take, drop, ◌+◌, rules, refl, ap, arith, ◌∙◌}
 use Rattle.std.proofs.lemmas.Int.{to_z-of_z}
 use Rattle.std.specs.Int.{cast_unsigned, w64}
 use Rattle.wa_ops.specs.Rows.{row_parameters}

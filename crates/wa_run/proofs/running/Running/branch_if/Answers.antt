@@ -1,4 +1,4 @@
-use Rattle.std.proofs.Common.{◌+◌, refl, ap, arith}
+use Rattle.std.proofs.Common.{◌+◌, refl, arith}
 use Rattle.wa_run.proofs.Branching.{br_if_needs, br_if_can, br_if_branches, br_if_skips}
 use Rattle.wa_run.proofs.running.Running.branch_if.Goals as goal
 

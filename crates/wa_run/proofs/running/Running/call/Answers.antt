@@ -1,4 +1,4 @@
-use Rattle.std.proofs.Common.{◌≡◌, ◌≤◌, ℕ, Some, None, ap, arith, rules, true, false}
+use Rattle.std.proofs.Common.{◌≤◌, Some, ap, rules}
 use Rattle.wa_ops.specs.Callees.{guard, accept, rollback, host_call}
 use Rattle.wa_ops.specs.Contexts.{callee_of_row}
 use Rattle.wa_ops.specs.Rows.{row_parameters}

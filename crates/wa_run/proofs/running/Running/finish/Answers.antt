@@ -1,4 +1,4 @@
-use Rattle.std.proofs.Common.{to_z, of_z, ◌+◌, refl, rules, ap, arith, ◌∷◌, ◌∙◌}
+use Rattle.std.proofs.Common.{to_z, of_z, ◌+◌, refl, rules, ap, ◌∷◌, ◌∙◌}
 use Rattle.std.proofs.lemmas.Int.{to_z-of_z}
 use Rattle.std.specs.Int.{w64}
 use Rattle.wa_run.proofs.Calling.{ending_needs, ending_some, ending_below, last_narrow, other_narrow, ending_goes, ending_stops}

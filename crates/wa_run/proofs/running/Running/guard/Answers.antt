@@ -1,4 +1,4 @@
-use Rattle.std.proofs.Common.{◌+◌, refl, ap, arith, sym, subst, ◌<◌, ◌≤◌, ◌∷◌, ◌∙◌}
+use Rattle.std.proofs.Common.{◌+◌, refl, ap, arith, subst, ◌<◌, ◌≤◌, ◌∷◌, ◌∙◌}
 use Rattle.wa_run.proofs.Calling.{guard_needs, last_narrow, other_narrow, guard_goes, guard_stops}
 use Rattle.wa_run.proofs.running.Running.guard.Goals as goal
 

@@ -1,4 +1,4 @@
-use Rattle.std.proofs.Common.{◌≡◌, ◌<◌, ℕ, Some, None, ap, arith, refl, inl, inr, sym, ◌∙◌, slice_get, slice_index_or, length}
+use Rattle.std.proofs.Common.{Some, None, ap, arith, refl, inl, inr, sym, ◌∙◌, slice_index_or}
 use Rattle.std.proofs.lemmas.Option.{slice_get-get_or}
 use Rattle.wa_ops.specs.Soundness.{IsSoundOp}
 use Rattle.wa_ops.specs.declared.op.Op.TheVariants as op

@@ -1,4 +1,4 @@
-use Rattle.std.proofs.Common.{◌≡◌, ◌+◌, ◌<◌, ◌^◌, Some, None, sym, ◌∙◌, ap, refl, arith, rules}
+use Rattle.std.proofs.Common.{◌+◌, sym, ◌∙◌, ap, refl, arith}
 use Rattle.wa_num.specs.Memory.{loaded}
 use Rattle.wa_run.proofs.Accesses.{load_form, load_needs, load_acts, load_traps}
 use Rattle.wa_run.proofs.store.Store.load.Goals as goal

@@ -1,4 +1,4 @@
-use Rattle.std.proofs.Common.{◌≡◌, rules, length, take, drop, reverse, ◌-◌, List, ℕ, ap, arith, ◌∙◌}
+use Rattle.std.proofs.Common.{rules, length, take, drop, ◌-◌, List, ℕ, ap, ◌∙◌}
 use Rattle.wa_run.specs.Room.{Words}
 use Rattle.wa_run.proofs.Reversed.{last_put}
 use Rattle.wa_run.proofs.words.Words.last.Goals as goal
