@@ -1,5 +1,5 @@
 //! What the bytes of a transaction read as.
-ghost use Rattle.std.specs.Prelude.{◌≡◌, ◌<◌, length, Ok, IfOk, IfSome, IfNone};
+ghost use Rattle.std.specs.Prelude.{◌≡◌, ◌<◌, ◌≤◌, length, Ok, IfOk, IfSome, IfNone, IsTrue, IsFalse};
 ghost use Rattle.xo_object.specs.Span.{items};
 ghost use Rattle.xo_object.specs.Value.{IsObject, HasFields};
 ghost use Rattle.hk_reading.specs.Readings.{Reads, IsCountable, longest};
@@ -45,7 +45,7 @@ fn read_by_relation(alloc: Global, bytes: &[u8]) -> Result<Reading, NoMemory>
     ensures countable { IfOk result (λ r. IsCountable r) }
     ensures too_long { longest < length bytes.now → result ≡ Ok Reading.TooLong }
 {
-    if bytes.len() > LONGEST {
+    if is_too_long(bytes) {
         return Ok(Reading::TooLong);
     }
     let object = match object_of(alloc, bytes)? {
@@ -62,6 +62,13 @@ fn read_by_relation(alloc: Global, bytes: &[u8]) -> Result<Reading, NoMemory>
             Ok(Reading::Transaction(transaction))
         }
     }
+}
+
+fn is_too_long(bytes: &[u8]) -> bool
+    ensures long { IsTrue result → longest < length bytes.now }
+    ensures short { IsFalse result → length bytes.now ≤ longest }
+{
+    bytes.len() > LONGEST
 }
 
 /// The object that bytes are, if they are one.

@@ -1,4 +1,4 @@
-ghost use Rattle.std.specs.Prelude.{◌≡◌, ◌+◌, ◌-◌, ◌++◌, ◌*◌, ◌<◌, ◌≤◌, ◌↔◌, IfOk, IsTrue, MatchOption, drop, length, replicate, take};
+ghost use Rattle.std.specs.Prelude.{◌≡◌, ◌+◌, ◌-◌, ◌++◌, ◌*◌, ◌<◌, ◌^◌, ◌≤◌, ◌↔◌, IfOk, IsTrue, MatchOption, drop, length, replicate, take};
 ghost use Rattle.wa_num.specs.Memory.{cells, is_width, little, loaded, written};
 
 use std::alloc::Global;
@@ -46,6 +46,7 @@ impl Memory {
     pub fn load(&self, address: u32, offset: u32, width: u32) -> Option<u64>
         requires width { IsTrue (is_width width) }
         ensures number { result ≡ loaded self.now (address + offset) width }
+        ensures fits { MatchOption result (Unit {0}) (λ n. n < 256 ^ width) }
     {
         let start = address as usize + offset as usize;
         let end = start + width as usize;
@@ -105,6 +106,7 @@ impl Memory {
 fn number_of(bytes: &[u8]) -> u64
     requires width { length bytes.now ≤ 8 }
     ensures number { result ≡ little bytes.now }
+    ensures fits { result < 256 ^ length bytes.now }
 {
     u64::from_le_bytes(widened(bytes))
 }

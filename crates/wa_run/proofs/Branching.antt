@@ -1,15 +1,16 @@
 -- The instruction `br`, by what a branch from the innermost region makes of the run.
-use Rattle.std.proofs.Common.{◌≡◌, ◌+◌, ◌<◌, ◌==◌, ◌⊎◌, inl, inr, ℕ, suc, List, [], ◌∷◌, ◌++◌, Option, Some, None, if◌then◌else◌, length, slice_get, sym, ◌∙◌, ap, subst, refl, arith}
+use Rattle.std.proofs.Common.{◌≡◌, ◌+◌, ◌<◌, ◌≤◌, ◌==◌, ◌⊎◌, inl, inr, ℕ, zero, suc, List, [], ◌∷◌, ◌++◌, Option, Some, None, if◌then◌else◌, length, slice_get, slice_index_or, sym, ◌∙◌, ap, subst, refl, arith}
 use Rattle.wa_ops.specs.declared.op.Op.{Op}
 use Rattle.wa_ops.specs.declared.op.Op.TheVariants as op
 use Rattle.wa_ops.specs.declared.op.ValueType.{ValueType}
-use Rattle.wa_machine.specs.Machine.{Value, word_of, Region, Configuration, World, Step, onward, with_some, with_word, taken_result, return_with, arrive, branch, leave, ticked, step}
-use Rattle.wa_run.specs.Acts.{IsNoFault}
+use Rattle.wa_machine.specs.Machine.{Value, word_of, Region, Configuration, World, Step, onward, with_some, with_word, taken_result, return_with, arrive, branch, leave, label_at, ticked, step}
+use Rattle.wa_run.specs.Acts.{Holds, IsNoFault}
 use Rattle.wa_run.specs.Flat.{words_of, all_words, Standing, AllMark, IsRooted}
+use Rattle.wa_run.specs.Room.{passes_of}
 use Rattle.wa_run.specs.Running.{Is, Follows, BeforeBranch, Branches, CanBranch, CanTurn}
 use Rattle.wa_run.specs.declared.running.Running.{Running}
 use Rattle.wa_run.specs.declared.running.Stop.{Stop}
-use Rattle.wa_run.proofs.Plain.{FindsSome, found_some, Keeps}
+use Rattle.wa_run.proofs.Plain.{FindsSome, found_some, FindsWord, found_word, Keeps}
 use Rattle.wa_run.proofs.Following.{unticked, rooted_like, guards_stay, BeforePlain, before_plain}
 use Rattle.wa_run.proofs.Leaving.{TakesNone, TakesOne, taken_is, ReturnsTop}
 use Rattle.wa_run.proofs.Choosing.{if_is_true, if_is_false, nonzero, Taken, taken}
@@ -64,6 +65,16 @@ pub record TakesCondition (condition : ℕ) (old mid : Running) : Type 0 where
   pub labels : mid.labels.items ≡ old.labels.items
   pub guards : mid.guards.items ≡ old.guards.items
 
+pub before_taken : {S : Type 0} {c : Configuration S} {ops : List Op} {ends : List ℕ} {region : Region} {around : List Region} {operands left : List Value} (condition : ℕ) (old mid : Running) → TakesCondition condition old mid →
+    BeforeBranch ops ends region around operands c old → ((id : ℕ) → c.guards id ≡ passes_of old.guards.items id) → Holds around left c.locals c.globals c.memory mid.store → BeforeBranch ops ends region around left c mid
+before_taken {S} {c} {ops} {ends} {region} {around} condition old mid k before g h = record {
+  at = before.at;
+  marks = subst (λ labels. AllMark ops ends (region ∷ around) before.at labels) (sym k.labels) before.marks;
+  rooted = before.rooted;
+  holds = h;
+  guards = guards_stay c.guards c.guards old mid refl k.guards g;
+}
+
 pub br_if_branches : {S : Type 0} (label entry condition : ℕ) (old mid : Running) (found : Option Stop) (new : Running) → TakesCondition condition old mid → (condition ≡ 0 → ⊥) → Branches S label mid found new →
     (world : World S) (c : Configuration S) (ops : List Op) (ends : List ℕ) → Is ops ends c old → slice_get ops old.at ≡ Some (op.BrIf label) → slice_get ends old.at ≡ Some entry → IsNoFault (step world c) →
     Follows ops ends (step world c) found new c.host
@@ -76,28 +87,21 @@ br_if_branches {S} label entry condition old mid found new k nz branches world c
     let q : with_word i.region.operands go ≡ branch label (region ∷ i.around) t.left c =
     t.same ∙ if_is_false (condition == 0) (onward region i.around t.left c) (branch label (region ∷ i.around) t.left c) (nonzero condition nz) in
     let p : step world c ≡ ticked (suc c.count) (branch label (region ∷ i.around) t.left c) = b.step_is ∙ ap (ticked (suc c.count)) q in
-    let before : BeforeBranch ops ends region i.around i.region.operands c old = before_branch world c ops ends old (op.BrIf label) i b in
     subst (λ s. Follows ops ends s found new c.host) (sym p)
-    (branches (suc c.count) c ops ends region i.around t.left
-    (record {
-      at = before.at;
-      marks = subst (λ labels. AllMark ops ends (region ∷ i.around) before.at labels) (sym k.labels) before.marks;
-      rooted = before.rooted;
-      holds = t.holds;
-      guards = guards_stay c.guards c.guards old mid refl k.guards i.guards;
-    }) (unticked (suc c.count) (branch label (region ∷ i.around) t.left c) (subst IsNoFault p s)))
+    (branches (suc c.count) c ops ends region i.around t.left (before_taken condition old mid k (before_branch world c ops ends old (op.BrIf label) i b) i.guards t.holds)
+    (unticked (suc c.count) (branch label (region ∷ i.around) t.left c) (subst IsNoFault p s)))
 
 pub br_if_skips : {S : Type 0} (label entry condition : ℕ) (old new : Running) → TakesCondition condition old new → condition ≡ 0 → new.at ≡ old.at + 1 →
     (world : World S) (c : Configuration S) (ops : List Op) (ends : List ℕ) → Is ops ends c old → slice_get ops old.at ≡ Some (op.BrIf label) → slice_get ends old.at ≡ Some entry → IsNoFault (step world c) →
     Follows ops ends (step world c) None new c.host
-br_if_skips {S} label entry condition old new k zero a world c ops ends i h e s =
+br_if_skips {S} label entry condition old new k is_zero a world c ops ends i h e s =
     let b : BeforePlain world c ops ends old (op.BrIf label) i.region i.around = before_plain world c ops ends old (op.BrIf label) i refl h in
     let region : Region = record i.region { rest = b.rest } in
     let go : ℕ → List Value → Step S = λ n left. if n == 0 then onward region i.around left c else branch label (region ∷ i.around) left c in
     let t : Taken i.region.operands i.around c go condition old new =
     taken i.region.operands i.around c go condition old new (unticked (suc c.count) (with_word i.region.operands go) (subst IsNoFault b.step_is s)) i.holds k.words k.keeps in
     let q : with_word i.region.operands go ≡ onward region i.around t.left c =
-    t.same ∙ if_is_true (condition == 0) (onward region i.around t.left c) (branch label (region ∷ i.around) t.left c) (ap (λ n. n == 0) zero) in
+    t.same ∙ if_is_true (condition == 0) (onward region i.around t.left c) (branch label (region ∷ i.around) t.left c) (ap (λ n. n == 0) is_zero) in
     let given : Region = record region { operands = t.left } in
     subst (λ s. Follows ops ends s None new c.host) (sym (b.step_is ∙ ap (ticked (suc c.count)) q)) (
       record {
@@ -114,6 +118,87 @@ br_if_skips {S} label entry condition old new k zero a world c ops ends i h e s 
       },
       refl,
     )
+
+pub br_if_needs : (S : Type 0) (label : ℕ) (old : Running) → CanTurn S (op.BrIf label) old → 0 < length old.store.words.items
+br_if_needs S label old m =
+    let b : BeforePlain m.world m.c m.ops m.ends old (op.BrIf label) m.is.region m.is.around = before_plain m.world m.c m.ops m.ends old (op.BrIf label) m.is refl m.here in
+    let region : Region = record m.is.region { rest = b.rest } in
+    let go : ℕ → List Value → Step S = λ n left. if n == 0 then onward region m.is.around left m.c else branch label (region ∷ m.is.around) left m.c in
+    let f : FindsWord m.is.region.operands = found_word m.is.region.operands go (unticked (suc m.c.count) (with_word m.is.region.operands go) (subst IsNoFault b.step_is m.sound)) in
+    omega (arith, ap length (m.is.holds.words ∙ ap (λ values. words_of values ++ all_words m.is.around) f.is))
+
+pub br_if_can : (S : Type 0) (label condition : ℕ) (old mid : Running) → TakesCondition condition old mid → (condition ≡ 0 → ⊥) → CanTurn S (op.BrIf label) old → CanBranch S label mid
+br_if_can S label condition old mid k nz m =
+    let b : BeforePlain m.world m.c m.ops m.ends old (op.BrIf label) m.is.region m.is.around = before_plain m.world m.c m.ops m.ends old (op.BrIf label) m.is refl m.here in
+    let region : Region = record m.is.region { rest = b.rest } in
+    let go : ℕ → List Value → Step S = λ n left. if n == 0 then onward region m.is.around left m.c else branch label (region ∷ m.is.around) left m.c in
+    let u : IsNoFault (with_word m.is.region.operands go) = unticked (suc m.c.count) (with_word m.is.region.operands go) (subst IsNoFault b.step_is m.sound) in
+    let t : Taken m.is.region.operands m.is.around m.c go condition old mid = taken m.is.region.operands m.is.around m.c go condition old mid u m.is.holds k.words k.keeps in
+    let q : with_word m.is.region.operands go ≡ branch label (region ∷ m.is.around) t.left m.c =
+    t.same ∙ if_is_false (condition == 0) (onward region m.is.around t.left m.c) (branch label (region ∷ m.is.around) t.left m.c) (nonzero condition nz) in
+    record {
+      c = m.c;
+      ops = m.ops;
+      ends = m.ends;
+      region = region;
+      around = m.is.around;
+      operands = t.left;
+      before = before_taken condition old mid k (before_branch m.world m.c m.ops m.ends old (op.BrIf label) m.is b) m.is.guards t.holds;
+      sound = subst IsNoFault q u;
+    }
+
+-- ---- `br_table`
+
+pub label_within : (labels : List ℕ) (last index : ℕ) → index < length labels → slice_index_or labels index 0 ≡ label_at labels last index
+label_within [] last index h = absurd (omega (arith, h))
+label_within (label ∷ labels) last zero h = refl
+label_within (label ∷ labels) last (suc index) h = label_within labels last index (omega (arith, h))
+
+pub label_past : (labels : List ℕ) (last index : ℕ) → length labels ≤ index → last ≡ label_at labels last index
+label_past [] last index h = refl
+label_past (label ∷ labels) last zero h = absurd (omega (arith, h))
+label_past (label ∷ labels) last (suc index) h = label_past labels last index (omega (arith, h))
+
+pub br_table_needs : (S : Type 0) (labels : List ℕ) (last : ℕ) (old : Running) → CanTurn S (op.BrTable labels last) old → 0 < length old.store.words.items
+br_table_needs S labels last old m =
+    let b : BeforePlain m.world m.c m.ops m.ends old (op.BrTable labels last) m.is.region m.is.around = before_plain m.world m.c m.ops m.ends old (op.BrTable labels last) m.is refl m.here in
+    let region : Region = record m.is.region { rest = b.rest } in
+    let go : ℕ → List Value → Step S = λ index left. branch (label_at labels last index) (region ∷ m.is.around) left m.c in
+    let f : FindsWord m.is.region.operands = found_word m.is.region.operands go (unticked (suc m.c.count) (with_word m.is.region.operands go) (subst IsNoFault b.step_is m.sound)) in
+    omega (arith, ap length (m.is.holds.words ∙ ap (λ values. words_of values ++ all_words m.is.around) f.is))
+
+pub br_table_can : (S : Type 0) (labels : List ℕ) (last label index : ℕ) (old mid : Running) → TakesCondition index old mid → label ≡ label_at labels last index → CanTurn S (op.BrTable labels last) old → CanBranch S label mid
+br_table_can S labels last label index old mid k e m =
+    let b : BeforePlain m.world m.c m.ops m.ends old (op.BrTable labels last) m.is.region m.is.around = before_plain m.world m.c m.ops m.ends old (op.BrTable labels last) m.is refl m.here in
+    let region : Region = record m.is.region { rest = b.rest } in
+    let go : ℕ → List Value → Step S = λ index left. branch (label_at labels last index) (region ∷ m.is.around) left m.c in
+    let u : IsNoFault (with_word m.is.region.operands go) = unticked (suc m.c.count) (with_word m.is.region.operands go) (subst IsNoFault b.step_is m.sound) in
+    let t : Taken m.is.region.operands m.is.around m.c go index old mid = taken m.is.region.operands m.is.around m.c go index old mid u m.is.holds k.words k.keeps in
+    record {
+      c = m.c;
+      ops = m.ops;
+      ends = m.ends;
+      region = region;
+      around = m.is.around;
+      operands = t.left;
+      before = before_taken index old mid k (before_branch m.world m.c m.ops m.ends old (op.BrTable labels last) m.is b) m.is.guards t.holds;
+      sound = subst IsNoFault (t.same ∙ ap (λ n. branch n (region ∷ m.is.around) t.left m.c) (sym e)) u;
+    }
+
+pub br_table_branches : {S : Type 0} (labels : List ℕ) (last label entry index : ℕ) (old mid : Running) (found : Option Stop) (new : Running) → TakesCondition index old mid → label ≡ label_at labels last index → Branches S label mid found new →
+    (world : World S) (c : Configuration S) (ops : List Op) (ends : List ℕ) → Is ops ends c old → slice_get ops old.at ≡ Some (op.BrTable labels last) → slice_get ends old.at ≡ Some entry → IsNoFault (step world c) →
+    Follows ops ends (step world c) found new c.host
+br_table_branches {S} labels last label entry index old mid found new k l branches world c ops ends i h e s =
+    let b : BeforePlain world c ops ends old (op.BrTable labels last) i.region i.around = before_plain world c ops ends old (op.BrTable labels last) i refl h in
+    let region : Region = record i.region { rest = b.rest } in
+    let go : ℕ → List Value → Step S = λ index left. branch (label_at labels last index) (region ∷ i.around) left c in
+    let t : Taken i.region.operands i.around c go index old mid =
+    taken i.region.operands i.around c go index old mid (unticked (suc c.count) (with_word i.region.operands go) (subst IsNoFault b.step_is s)) i.holds k.words k.keeps in
+    let p : step world c ≡ ticked (suc c.count) (branch label (region ∷ i.around) t.left c) =
+    b.step_is ∙ ap (ticked (suc c.count)) (t.same ∙ ap (λ n. branch n (region ∷ i.around) t.left c) (sym l)) in
+    subst (λ s. Follows ops ends s found new c.host) (sym p)
+    (branches (suc c.count) c ops ends region i.around t.left (before_taken index old mid k (before_branch world c ops ends old (op.BrTable labels last) i b) i.guards t.holds)
+    (unticked (suc c.count) (branch label (region ∷ i.around) t.left c) (subst IsNoFault p s)))
 
 -- ---- `return`
 

@@ -5,7 +5,7 @@ use Rattle.wa_ops.specs.declared.op.Op.{Op}
 use Rattle.wa_ops.specs.declared.op.Op.TheVariants.{Block, Loop}
 use Rattle.wa_ops.specs.declared.op.ValueType.{ValueType}
 use Rattle.wa_ops.specs.Sequences.{Sequence, plain, block, loop, nesting, stands}
-use Rattle.wa_machine.specs.Machine.{Value, Kind, inner, turns, Region, Configuration, World, Step, next, ended, fault, act, enter, node, innermost, ticked, step}
+use Rattle.wa_machine.specs.Machine.{Value, Kind, inner, turns, Region, Configuration, World, Step, next, ended, fault, onward, act, enter, node, innermost, ticked, step}
 use Rattle.wa_run.specs.Acts.{Holds, IsNoFault, GoesOn, Acts, ActsOr}
 use Rattle.wa_run.specs.Flat.{words_of, all_words, Standing, IsOfKind, has_result, IsLabelled, Marks, AllMark, IsRooted}
 use Rattle.wa_run.specs.Room.{passes_of}
@@ -73,6 +73,30 @@ before_plain world c ops ends old instruction i n h =
       step_is = step_at world c i.region i.around (plain instruction p.rest) i.regions p.is;
     }
 
+-- the innermost region goes on behind a plain instruction
+pub onward_follows : {S : Type 0} (region : Region) (around : List Region) (rest : Sequence) (operands : List Value) (after : Configuration S) (host : S) (old new : Running)
+    (world : World S) (c : Configuration S) (ops : List Op) (ends : List ℕ) → Top ops ends region around old.at old.labels.items → Standing ops ends rest (old.at + 1) → IsRooted (region ∷ around) →
+    step world c ≡ ticked (suc c.count) (onward (record region { rest = rest }) around operands after) → Holds around operands after.locals after.globals after.memory new.store →
+    new.at ≡ old.at + 1 → new.labels.items ≡ old.labels.items → ((id : ℕ) → after.guards id ≡ passes_of new.guards.items id) → after.host ≡ host →
+    Follows ops ends (step world c) None new host
+onward_follows region around rest operands after host old new world c ops ends t d r e h a l g k =
+    let given : Region = record region { rest = rest; operands = operands } in
+    subst (λ found. Follows ops ends found None new host) (sym e) (
+      record {
+        region = given;
+        around = around;
+        regions = refl;
+        marks = subst (λ labels. AllMark ops ends (given ∷ around) new.at labels) (sym (l ∙ t.is)) (
+          record { standing = subst (λ at. Standing ops ends rest at) (sym a) d; labelled = t.marks.labelled; values = h.operands_fit },
+          t.outer,
+        );
+        rooted = rooted_like region given around refl r;
+        holds = h;
+        guards = g;
+      },
+      k,
+    )
+
 pub plain_follows : {S : Type 0} (instruction : Op) (entry : ℕ) (old new : Running) → nesting instruction ≡ stands → Acts S instruction old.store new.store →
     new.at ≡ old.at + 1 → new.labels.items ≡ old.labels.items → new.guards.items ≡ old.guards.items →
     (world : World S) (c : Configuration S) (ops : List Op) (ends : List ℕ) → Is ops ends c old → slice_get ops old.at ≡ Some instruction → slice_get ends old.at ≡ Some entry → IsNoFault (step world c) →
@@ -83,25 +107,8 @@ plain_follows instruction entry old new n acts a l g world c ops ends i h e s =
     let t : IsNoFault (act world instruction region i.around i.region.operands c) =
     unticked (suc c.count) (act world instruction region i.around i.region.operands c) (subst IsNoFault b.step_is s) in
     let k : GoesOn (act world instruction region i.around i.region.operands c) region i.around c new.store = acts world region i.around i.region.operands c i.holds t in
-    subst (λ found. Follows ops ends found None new c.host) (sym (b.step_is ∙ ap (ticked (suc c.count)) k.step_is)) (
-      record {
-        region = record region { operands = k.operands };
-        around = i.around;
-        regions = refl;
-        marks = subst (λ labels. AllMark ops ends (record region { operands = k.operands } ∷ i.around) new.at labels) (sym (l ∙ b.top.is)) (
-          record {
-            standing = subst (λ at. Standing ops ends b.rest at) (sym a) b.standing;
-            labelled = b.top.marks.labelled;
-            values = k.holds.operands_fit;
-          },
-          b.top.outer,
-        );
-        rooted = rooted_like i.region (record region { operands = k.operands }) i.around refl i.rooted;
-        holds = k.holds;
-        guards = guards_stay c.guards k.after.guards old new k.guards g i.guards;
-      },
-      k.host,
-    )
+    onward_follows i.region i.around b.rest k.operands k.after c.host old new world c ops ends b.top b.standing i.rooted (b.step_is ∙ ap (ticked (suc c.count)) k.step_is) k.holds a l
+    (guards_stay c.guards k.after.guards old new k.guards g i.guards) k.host
 
 pub trap_follows : {S : Type 0} (instruction : Op) (entry : ℕ) (cause : Trap) (old new : Running) → nesting instruction ≡ stands → ActsOr S instruction old.store (Some cause) new.store →
     (world : World S) (c : Configuration S) (ops : List Op) (ends : List ℕ) → Is ops ends c old → slice_get ops old.at ≡ Some instruction → slice_get ends old.at ≡ Some entry → IsNoFault (step world c) →
@@ -112,7 +119,7 @@ trap_follows instruction entry cause old new n acts world c ops ends i h e s =
     let t : IsNoFault (act world instruction region i.around i.region.operands c) =
     unticked (suc c.count) (act world instruction region i.around i.region.operands c) (subst IsNoFault b.step_is s) in
     subst (λ found. Follows ops ends found (Some (stop.Trapped cause)) new c.host)
-    (sym (b.step_is ∙ ap (ticked (suc c.count)) (acts world region i.around i.region.operands c i.holds t))) (refl, refl)
+    (sym (b.step_is ∙ ap (ticked (suc c.count)) (acts world region i.around i.region.operands c i.holds t))) (refl, refl, tt)
 
 -- ---- regions that open
 

@@ -196,7 +196,7 @@ end_returns_step {S} instruction label others old n l is world c ops ends i h s 
 pub returned_follows : {S : Type 0} (ops : List Op) (ends : List ℕ) (found : Step S) (c last : Configuration S) (words : List ℕ) (code : ℤ) (new : Running) → ReturnsTop found last words → last.host ≡ c.host →
     ((word : ℕ) (below : List ℕ) → words ≡ word ∷ below → code ≡ cast_signed w64 word) → Follows ops ends found (Some (stop.Returned code)) new c.host
 returned_follows ops ends found c last words code new r h e =
-    subst (λ s. Follows ops ends s (Some (stop.Returned code)) new c.host) (sym r.is) (ap Returned (sym (e r.word r.below r.words_are)), h)
+    subst (λ s. Follows ops ends s (Some (stop.Returned code)) new c.host) (sym r.is) (ap Returned (sym (e r.word r.below r.words_are)), h, tt)
 
 -- ---- branches
 
@@ -487,3 +487,15 @@ branch_needs_carry S label named others old d p m =
         let size : length old.store.words.items ≡ length (words_of (o.value ∷ o.left) ++ all_words m.around) = ap length (w ∙ ap (λ values. words_of values ++ all_words m.around) o.operands_are) in
         subst (λ carries. (if carries then 1 else 0) + named.height ≤ length old.store.words.items) (sym (c ∙ o.carries))
         (omega (arith, size, length-append (words_of o.left) (all_words m.around)))
+
+-- the words that a branch keeps are at most one more
+pub carried_few : (carries : Bool) (words new : List ℕ) (count : ℕ) → new ≡ carried_words carries words ++ drop count words → length new ≤ length words + 1
+carried_few carries words new count e = omega (arith, ap length e, length-append (carried_words carries words) (drop count words), length-drop count words, one carries)
+  where
+    one : (carries : Bool) → length (carried_words carries words) ≤ 1
+    one true = first words
+      where
+        first : (words : List ℕ) → length (take 1 words) ≤ 1
+        first [] = omega arith
+        first (word ∷ words) = omega arith
+    one false = omega arith

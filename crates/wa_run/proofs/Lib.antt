@@ -5,3 +5,11 @@ pub mod Leaving
 pub mod Reversed
 pub mod Branching
 pub mod Choosing
+pub mod Calling
+pub mod Turning
+pub mod Ending
+pub mod Numeric
+pub mod Accesses
+pub mod Told
+pub mod Starting
+pub mod Sampling

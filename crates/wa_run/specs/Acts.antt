@@ -3,6 +3,7 @@ use Rattle.std.specs.Prelude.{ℕ, ◌≡◌, ◌+◌, ◌≤◌, List, ◌++◌
 use Rattle.hk_base.specs.declared.outcome.Outcome.TheVariants.{Trapped}
 use Rattle.hk_base.specs.declared.outcome.Trap.{Trap}
 use Rattle.wa_ops.specs.declared.op.Op.{Op}
+use Rattle.wa_ops.specs.declared.op.Op.TheVariants as op
 use Rattle.wa_machine.specs.Machine.{Value, Region, Configuration, World, Step, next, ended, fault, act, onward}
 use Rattle.wa_run.specs.Flat.{words_of, all_words, AllValues}
 use Rattle.wa_run.specs.Room.{Words}
@@ -23,6 +24,23 @@ abbrev pub IsNoFault : {S : Type 0} → Step S → Type 0
 IsNoFault (next c) = Unit {0}
 IsNoFault (ended outcome c) = Unit {0}
 IsNoFault fault = ⊥
+
+-- the instructions on operands, variables and memory alone
+abbrev pub IsPlain : Op → Type 0
+IsPlain (op.Block result) = ⊥
+IsPlain (op.Loop result) = ⊥
+IsPlain (op.If result) = ⊥
+IsPlain op.Else = ⊥
+IsPlain op.End = ⊥
+IsPlain (op.Br label) = ⊥
+IsPlain (op.BrIf label) = ⊥
+IsPlain (op.BrTable labels last) = ⊥
+IsPlain op.Return = ⊥
+IsPlain (op.Call function) = ⊥
+IsPlain (op.CallIndirect index) = ⊥
+IsPlain op.MemoryGrow = ⊥
+IsPlain (op.Float opcode) = ⊥
+IsPlain instruction = Unit {0}
 
 -- a configuration in which the instruction meets this store and no fault
 pub record Meets (S : Type 0) (instruction : Op) (store : Store) : Type 0 where

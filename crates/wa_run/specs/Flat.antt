@@ -87,3 +87,8 @@ IsRooted (region ∷ other ∷ around) = IsRooted (other ∷ around)
 abbrev pub carried_words : Bool → List ℕ → List ℕ
 carried_words true words = take 1 words
 carried_words false words = []
+
+-- the last pushed word is one of 32 bits
+abbrev pub IsNarrow : List ℕ → Type 0
+IsNarrow [] = ⊥
+IsNarrow (word ∷ words) = word < 2 ^ 32

@@ -1,11 +1,11 @@
 -- A run of flat code under way, and what one turn makes of it, against one step of the machine.
-use Rattle.std.specs.Prelude.{ℕ, ◌≡◌, List, ◌∷◌, Option, Some, None, slice_get}
+use Rattle.std.specs.Prelude.{ℕ, ◌≡◌, ◌+◌, ◌≤◌, List, ◌∷◌, Option, Some, None, length, slice_get}
 use Rattle.hk_base.specs.declared.outcome.Outcome.{Outcome}
 use Rattle.hk_base.specs.declared.outcome.Outcome.TheVariants.{Accepted, RolledBack, Returned, Trapped, GuardViolated}
 use Rattle.wa_ops.specs.declared.op.Op.{Op}
 use Rattle.wa_ops.specs.declared.op.Op.TheVariants.{If, Else}
 use Rattle.wa_ops.specs.declared.op.ValueType.{ValueType}
-use Rattle.wa_machine.specs.Machine.{Value, Region, Configuration, World, Step, next, ended, fault, branch, ticked, step}
+use Rattle.wa_machine.specs.Machine.{Value, Region, Configuration, World, Step, next, ended, fault, text_of, branch, ticked, step}
 use Rattle.wa_run.specs.Acts.{Holds, IsNoFault}
 use Rattle.wa_run.specs.Flat.{AllMark, IsRooted}
 use Rattle.wa_run.specs.Room.{passes_of}
@@ -23,20 +23,26 @@ pub record Is {S : Type 0} (ops : List Op) (ends : List ℕ) (c : Configuration 
   pub holds : Holds around region.operands c.locals c.globals c.memory running.store
   pub guards : (id : ℕ) → c.guards id ≡ passes_of running.guards.items id
 
--- the outcome that a stop tells of, with this text
+-- the outcome that a stop tells of, with its text in this memory
 abbrev pub outcome_of : Stop → List ℕ → Outcome
-outcome_of (stop.Accepted code) text = Accepted code text
-outcome_of (stop.RolledBack code) text = RolledBack code text
-outcome_of (stop.Returned code) text = Returned code
-outcome_of (stop.Trapped cause) text = Trapped cause
-outcome_of (stop.GuardViolated id limit) text = GuardViolated id limit
+outcome_of (stop.Accepted message) memory = Accepted message.code (text_of memory message.from message.size)
+outcome_of (stop.RolledBack message) memory = RolledBack message.code (text_of memory message.from message.size)
+outcome_of (stop.Returned code) memory = Returned code
+outcome_of (stop.Trapped cause) memory = Trapped cause
+outcome_of (stop.GuardViolated id limit) memory = GuardViolated id limit
+
+-- the text that a stop tells of lies in this memory
+abbrev pub IsHeld : Stop → List ℕ → Type 0
+IsHeld (stop.Accepted message) memory = message.from + message.size ≤ length memory
+IsHeld (stop.RolledBack message) memory = message.from + message.size ≤ length memory
+IsHeld other memory = Unit {0}
 
 -- a turn's answer and the run after it are those of a step, and so is the host
 abbrev pub Follows : {S : Type 0} → List Op → List ℕ → Step S → Option Stop → Running → S → Type 0
 Follows ops ends (next c) None running host = Is ops ends c running × (c.host ≡ host)
 Follows ops ends (next c) (Some found) running host = ⊥
 Follows ops ends (ended outcome c) None running host = ⊥
-Follows ops ends (ended outcome c) (Some found) running host = (outcome ≡ outcome_of found running.text.items) × (c.host ≡ host)
+Follows ops ends (ended outcome c) (Some found) running host = (outcome ≡ outcome_of found running.store.memory) × (c.host ≡ host) × IsHeld found running.store.memory
 Follows ops ends fault found running host = ⊥
 
 -- in each configuration where the run stands before this instruction, with this entry of the table of ends, the turn is the machine's step
@@ -90,3 +96,12 @@ abbrev pub Chooses : (S : Type 0) → Option ValueType → ℕ → Option ℕ �
 Chooses S carried entry other old new =
     (world : World S) (c : Configuration S) (ops : List Op) (ends : List ℕ) → Is ops ends c old →
     slice_get ops old.at ≡ Some (If carried) → slice_get ends old.at ≡ Some entry → IsArm ops ends entry other → IsNoFault (step world c) → Follows ops ends (step world c) None new c.host
+
+-- at most one item more on each stack, and no less room
+pub record Widens (old new : Running) : Type 0 where
+  pub words : length new.store.words.items ≤ length old.store.words.items + 1
+  pub words_room : old.store.words.room ≤ new.store.words.room
+  pub labels : length new.labels.items ≤ length old.labels.items + 1
+  pub labels_room : old.labels.room ≤ new.labels.room
+  pub guards : length new.guards.items ≤ length old.guards.items + 1
+  pub guards_room : old.guards.room ≤ new.guards.room

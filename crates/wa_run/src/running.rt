@@ -1,8 +1,9 @@
 //! A run under way, and the instructions that open, close and leave regions.
 ghost use Rattle.std.specs.Prelude.{ℕ, ◌+◌, ◌<◌, ◌≤◌, ◌≡◌, ◌^◌, length, None, Some};
 ghost use Rattle.wa_ops.specs.declared.op.Op.{Op};
+ghost use Rattle.wa_machine.specs.Machine.{label_at};
 ghost use Rattle.wa_run.specs.Flat.{IsMarker};
-ghost use Rattle.wa_run.specs.Running.{Branches, CanBranch, CanTurn, Chooses, Turns};
+ghost use Rattle.wa_run.specs.Running.{Branches, CanBranch, CanTurn, Chooses, Turns, Widens};
 
 use crate::guards::Guards;
 use crate::label::{Label, Place, carries};
@@ -11,11 +12,19 @@ use crate::store::Store;
 use hk_base::Trap;
 use wa_ops::{Op, ValueType};
 
-/// Why a run stops; the text of `accept` and `rollback` stands in the run.
+/// What `accept` and `rollback` tell: a code, and where in the memory their text stands.
+#[derive(Clone, Copy, Debug, PartialEq, Eq)]
+pub(crate) struct Message {
+    pub(crate) code: i64,
+    pub(crate) from: u32,
+    pub(crate) size: u32,
+}
+
+/// Why a run stops.
 #[derive(Clone, Copy, Debug, PartialEq, Eq)]
 pub(crate) enum Stop {
-    Accepted(i64),
-    RolledBack(i64),
+    Accepted(Message),
+    RolledBack(Message),
     Returned(i64),
     Trapped(Trap),
     GuardViolated { id: u32, limit: u32 },
@@ -29,8 +38,6 @@ pub(crate) struct Running {
     pub(crate) labels: Labels,
     pub(crate) guards: Guards,
     pub(crate) store: Store,
-    /// The text of `accept` or `rollback`.
-    pub(crate) text: Vec<u8>,
 }
 
 impl Running {
@@ -39,6 +46,7 @@ impl Running {
         requires place { self.old.at < 2 ^ 63 }
         requires room { length self.old.labels.items < self.old.labels.room }
         ensures turns { Turns S (Op.Block carried) last self.old None self.new }
+        ensures grows { Widens self.old self.new }
     {
         self.labels.open(Label {
             place: Place::Inner,
@@ -54,6 +62,7 @@ impl Running {
         requires place { self.old.at < 2 ^ 63 }
         requires room { length self.old.labels.items < self.old.labels.room }
         ensures turns { Turns S (Op.Loop carried) last self.old None self.new }
+        ensures grows { Widens self.old self.new }
     {
         self.labels.open(Label {
             place: Place::Loop(self.at + 1),
@@ -70,6 +79,7 @@ impl Running {
         requires place { self.old.at < 2 ^ 63 }
         requires room { length self.old.labels.items < self.old.labels.room }
         ensures chooses { Chooses S carried entry other self.old self.new }
+        ensures grows { Widens self.old self.new }
     {
         let condition = self.store.words.pop();
         let label = Label {
@@ -96,6 +106,7 @@ impl Running {
     pub(crate) fn end<S>(&mut self) -> Option<Stop>
         requires turns { (instruction : Op) × IsMarker instruction × CanTurn S instruction self.old }
         ensures turns { (instruction : Op) → IsMarker instruction → (entry : ℕ) → Turns S instruction entry self.old result self.new }
+        ensures grows { Widens self.old self.new }
     {
         let label = self.labels.close();
         if let Place::Body = label.place {
@@ -111,6 +122,7 @@ impl Running {
         requires words_room { length self.old.store.words.items ≤ self.old.store.words.room }
         requires labels_room { length self.old.labels.items ≤ self.old.labels.room }
         ensures branches { Branches S label self.old result self.new }
+        ensures grows { Widens self.old self.new }
     {
         self.labels.unwind(label as usize);
         let named = self.labels.close();
@@ -130,12 +142,52 @@ impl Running {
         }
     }
 
+    /// The instruction `br_if`.
+    pub(crate) fn branch_if<S>(&mut self, label: u32) -> Option<Stop>
+        requires meets { CanTurn S (Op.BrIf label) self.old }
+        requires place { self.old.at < 2 ^ 63 }
+        requires words_room { length self.old.store.words.items ≤ self.old.store.words.room }
+        requires labels_room { length self.old.labels.items ≤ self.old.labels.room }
+        ensures turns { (entry : ℕ) → Turns S (Op.BrIf label) entry self.old result self.new }
+        ensures grows { Widens self.old self.new }
+    {
+        let condition = self.store.words.pop();
+        if condition == 0 {
+            self.at += 1;
+            return None;
+        }
+        self.branch::<S>(label)
+    }
+
+    /// The instruction `br_table`.
+    pub(crate) fn branch_table<S>(&mut self, labels: &[u32], last: u32) -> Option<Stop>
+        requires meets { CanTurn S (Op.BrTable labels.now last) self.old }
+        requires words_room { length self.old.store.words.items ≤ self.old.store.words.room }
+        requires labels_room { length self.old.labels.items ≤ self.old.labels.room }
+        ensures turns { (entry : ℕ) → Turns S (Op.BrTable labels.now last) entry self.old result self.new }
+        ensures grows { Widens self.old self.new }
+    {
+        let index = self.store.words.pop();
+        self.branch::<S>(label_of(labels, last, index))
+    }
+
     /// The instruction `return`.
     pub(crate) fn leave<S>(&self) -> Stop
         requires meets { CanTurn S Op.Return self.now }
         ensures turns { (entry : ℕ) → Turns S Op.Return entry self.now (Some result) self.now }
     {
         Stop::Returned(self.store.words.top().cast_signed())
+    }
+}
+
+/// The label of a `br_table` at this index; past its list the last.
+fn label_of(labels: &[u32], last: u32, index: u64) -> u32
+    ensures label { result ≡ label_at labels.now last index }
+{
+    if index < labels.len() as u64 {
+        labels[index as usize]
+    } else {
+        last
     }
 }
 

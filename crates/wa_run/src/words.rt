@@ -1,6 +1,6 @@
 //! The operands of a run as untyped words.
-ghost use Rattle.std.specs.Prelude.{ℕ, List, ◌≡◌, ◌+◌, ◌-◌, ◌∷◌, ◌++◌, ◌<◌, ◌≤◌, [], length, drop, if◌then◌else◌, IfOk};
-ghost use Rattle.wa_run.specs.Flat.{carried_words};
+ghost use Rattle.std.specs.Prelude.{ℕ, List, ◌≡◌, ◌+◌, ◌-◌, ◌∷◌, ◌++◌, ◌<◌, ◌≤◌, [], length, take, drop, reverse, if◌then◌else◌, IfOk};
+ghost use Rattle.wa_run.specs.Flat.{IsNarrow, carried_words};
 
 use std::alloc::Global;
 use std::marker::Model;
@@ -56,6 +56,23 @@ impl Words {
             Some(word) => word,
             None => unreachable!(),
         }
+    }
+
+    /// The last word, of 32 bits.
+    pub(crate) fn pop_narrow(&mut self) -> u32
+        requires narrow { IsNarrow self.old.items }
+        ensures items { self.old.items ≡ result ∷ self.new.items }
+        ensures room { self.old.room ≤ self.new.room }
+    {
+        self.pop() as u32
+    }
+
+    /// The last `count` words that were pushed, in order.
+    pub(crate) fn last(&self, count: usize) -> &[u64]
+        requires some { count ≤ length self.now.items }
+        ensures words { result.now ≡ reverse (take count self.now.items) }
+    {
+        &self.words[self.words.len() - count..]
     }
 
     /// The last word that was pushed.

@@ -1,0 +1,6 @@
+use Rattle.std.proofs.Common.{◌≡◌, take}
+use Rattle.wa_run.specs.Starts.{first_globals}
+use Rattle.wa_run.proofs.first_values.first_globals.Given as goal
+
+abbrev pub invariant-loop-global : goal.invariant-loop-global
+invariant-loop-global l = l.words.items ≡ first_globals (take l.global-index l.globals)
