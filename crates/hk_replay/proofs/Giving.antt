@@ -1,13 +1,11 @@
 -- Words and an input have one text and one status.
-use Rattle.std.proofs.Common.{◌≡◌, ℕ, ◌⊎◌, inl, inr, List, Option, Some, None, ap, sym, subst, ◌∙◌, refl}
-use Rattle.hk_base.specs.declared.outcome.Outcome.{Outcome}
-use Rattle.wa_ops.specs.Sequences.{Sequence, Reads}
-use Rattle.wa_ops.proofs.Parsing.{one_tree}
-use Rattle.wa_exec.specs.Machine.{Ends}
-use Rattle.wa_exec.specs.Bound.{bound}
-use Rattle.wa_exec.specs.Taken.{hook_context, hook_start}
-use Rattle.wa_exec.proofs.OneEnding.{one_ending}
-use Rattle.wa_exec.proofs.OneTaken.{one_taken}
+use Rattle.std.proofs.Common.{◌≡◌, ℕ, ◌⊎◌, inl, inr, List, [], ◌∷◌, ◌++◌, Option, Some, None, ap, sym, subst, ◌∙◌, refl}
+use Rattle.std.specs.Prelude.{codes}
+use Rattle.std.specs.Fmt.{decimal}
+use Rattle.hk_base.specs.Hexadecimal.{hex_text}
+use Rattle.hk_base.specs.declared.ids.Hash256.{Hash256}
+use Rattle.wa_ops.specs.HookRules.{is_hook}
+use Rattle.wa_exec.specs.Runs.{IsRun, OneEnding}
 use Rattle.hk_lines.specs.Given.{ended}
 use Rattle.hk_lines.specs.OutputForms.{line_text}
 use Rattle.hk_lines.specs.declared.output_line.OutputLine.TheVariants as printed
@@ -15,62 +13,81 @@ use Rattle.hk_lines.specs.declared.status.Status.{Status}
 use Rattle.hk_lines.specs.declared.status.Status.TheVariants.{Done, ReadFault, WriteFault, NoMemory, HookRefused}
 use Rattle.hk_loop.specs.Answers.{IsAnswer}
 use Rattle.hk_replay.specs.declared.command.Command.{Command}
-use Rattle.hk_replay.specs.declared.command.Command.TheVariants.{Run, Replay, Other}
-use Rattle.hk_replay.specs.Answers.{IsLineOf, IsRunOf, IsReply, Replies, hook_lines, replay_lines, GivesFor, command_of, IsSame, OneAnswer}
+use Rattle.hk_replay.specs.declared.command.Command.TheVariants.{Hook, Replay, Other}
+use Rattle.hk_replay.specs.declared.command.Question.{Question}
+use Rattle.hk_replay.specs.declared.command.Question.TheVariants.{Check, Run}
+use Rattle.hk_replay.specs.Answers.{IsAccepted, IsRunOf, IsRefusal, Accepts, no_calls, cbak_text, IsReply, Replies, hook_lines, replay_lines, GivesFor, command_of, IsSame, OneAnswer}
+use Rattle.hk_replay.specs.Refusals.{refused_line}
 use Rattle.hk_replay.specs.Moved.{Answered}
+use Rattle.hk_replay.proofs.OneRefusal.{one_refusal, holds_or_refused, one_module_held, one_hash, one_hook_bound, one_cbak_bound}
 
-abbrev shown : Outcome → ℕ → ℕ → List ℕ
-shown outcome count most = line_text (printed.Run outcome count most)
+-- an accepted code has one line
+accepted_once : (code first second : List ℕ) → IsAccepted code first → IsAccepted code second → first ≡ second
+accepted_once code first second x y =
+    x.line
+    ∙ ap (λ hash. line_of hash x.held.bound_hook x.held.bound_cbak) (one_hash code x.held y.held x.holds y.holds)
+    ∙ ap (λ bound. line_of y.held.hash bound x.held.bound_cbak) (one_hook_bound code x.held y.held x.holds y.holds)
+    ∙ ap (λ bound. line_of y.held.hash y.held.bound_hook bound) (one_cbak_bound code x.held y.held x.holds y.holds)
+    ∙ sym y.line where
+      line_of : Hash256 → ℕ → Option ℕ → List ℕ
+      line_of hash bound cbak = codes "ok " ++ (hex_text hash.0 ++ (codes " hook " ++ (decimal bound ++ (codes " cbak " ++ (cbak_text cbak ++ 10 ∷ [])))))
 
--- a body's run has one line
-one_line : (a b : Sequence) (first second : List ℕ) → a ≡ b → IsLineOf a first → IsLineOf b second → first ≡ second
-one_line a b first second same x y =
-    let at_b = subst (λ tree. Ends hook_context x.count (hook_start 0 tree) x.outcome) same x.ended in
-    let one = one_ending hook_context x.count y.count (hook_start 0 b) x.outcome y.outcome at_b y.ended in
-    x.line ∙ ap (λ tree. shown x.outcome x.count (bound tree)) same
-    ∙ ap (λ outcome. shown outcome x.count (bound b)) one.1 ∙ ap (λ count. shown y.outcome count (bound b)) one.0 ∙ sym y.line
+-- and its run has one
+run_once : OneEnding ℕ → (code first second : List ℕ) → IsRunOf code first → IsRunOf code second → first ≡ second
+run_once law code first second x y =
+    let run = subst (λ m. IsRun no_calls m is_hook 0 0 x.outcome x.count x.after) (one_module_held code x.held y.held x.holds y.holds) x.run in
+    let same = law no_calls y.held.wasm is_hook 0 0 x.outcome y.outcome x.count y.count x.after y.after run y.run in
+    x.line
+    ∙ ap (λ outcome. line_text (printed.Run outcome x.count x.held.bound_hook)) same.0
+    ∙ ap (λ count. line_text (printed.Run y.outcome count x.held.bound_hook)) same.1
+    ∙ ap (λ bound. line_text (printed.Run y.outcome y.count bound)) (one_hook_bound code x.held y.held x.holds y.holds)
+    ∙ sym y.line
 
--- a code's run has one line
-one_run : (code first second : List ℕ) → IsRunOf code first → IsRunOf code second → first ≡ second
-one_run code first second x y =
-    let ops = one_taken code x.ops y.ops x.taken y.taken in
-    let tree = one_tree y.ops x.taken.tree y.taken.tree (subst (λ list. Reads list x.taken.tree) ops x.taken.body.reads) y.taken.body.reads in
-    one_line x.taken.tree y.taken.tree first second tree x.run y.run
+accepts_once : OneEnding ℕ → (question : Question) (code first second : List ℕ) → Accepts question code first → Accepts question code second → first ≡ second
+accepts_once law Check code first second x y = accepted_once code first second x y
+accepts_once law Run code first second x y = run_once law code first second x y
+
+-- a code is accepted or refused
+accepted_not_refused : (question : Question) (code first second : List ℕ) → Accepts question code first → IsRefusal code second → ⊥
+accepted_not_refused Check code first second x y = holds_or_refused code x.held y.found x.holds y.refused y.named
+accepted_not_refused Run code first second x y = holds_or_refused code x.held y.found x.holds y.refused y.named
 
 -- a code has one answer
-pub one_reply : (code first second : List ℕ) (status other : Status) → IsReply code first status → IsReply code second other → IsSame first second status other
-one_reply code first second Done Done x y = record { text = one_run code first second x y; answer = refl }
-one_reply code first second Done HookRefused x y = absurd (y.0 x.ops x.taken)
-one_reply code first second Done other x y = absurd y
-one_reply code first second HookRefused Done x y = absurd (x.0 y.ops y.taken)
-one_reply code first second HookRefused HookRefused x y = record { text = x.1 ∙ sym y.1; answer = refl }
-one_reply code first second HookRefused other x y = absurd y
-one_reply code first second status other x y = absurd x
+one_reply : OneEnding ℕ → (question : Question) (code first second : List ℕ) (status other : Status) → IsReply question code first status → IsReply question code second other →
+    IsSame first second status other
+one_reply law question code first second Done Done x y = record { text = accepts_once law question code first second x y; answer = refl }
+one_reply law question code first second Done HookRefused x y = absurd (accepted_not_refused question code first second x y)
+one_reply law question code first second Done other x y = absurd y
+one_reply law question code first second HookRefused Done x y = absurd (accepted_not_refused question code second first y x)
+one_reply law question code first second HookRefused HookRefused x y =
+    record { text = x.line ∙ ap refused_line (one_refusal code x.found y.found x.refused y.refused x.named y.named) ∙ sym y.line; answer = refl }
+one_reply law question code first second HookRefused other x y = absurd y
+one_reply law question code first second status other x y = absurd x
 
 -- so have lines
-one_replies : (found : Option Status) (shown first second : List ℕ) (status other : Status) → Replies found shown first status → Replies found shown second other → IsSame first second status other
-one_replies (Some Done) code first second status other x y = one_reply code first second status other x y
-one_replies (Some found) shown first second status other x y = record { text = x.0 ∙ sym y.0; answer = x.1 ∙ sym y.1 }
-one_replies None shown first second status other x y = absurd x
+one_replies : OneEnding ℕ → (question : Question) (found : Option Status) (shown first second : List ℕ) (status other : Status) → Replies question found shown first status → Replies question found shown second other → IsSame first second status other
+one_replies law question (Some Done) code first second status other x y = one_reply law question code first second status other x y
+one_replies law question (Some found) shown first second status other x y = record { text = x.0 ∙ sym y.0; answer = x.1 ∙ sym y.1 }
+one_replies law question None shown first second status other x y = absurd x
 
 same_status : (found : Option Status) (status other : Status) → found ≡ Some status → found ≡ Some other → status ≡ other
 same_status found status other x y = cc
 
-one_for : (command : Command) (bytes first second : List ℕ) (status other : Status) → GivesFor command bytes first status → GivesFor command bytes second other → IsSame first second status other
-one_for Run bytes first second status other x y = one_replies (hook_lines bytes ended).status (hook_lines bytes ended).text first second status other x y
-one_for Replay bytes first second status other x y =
+one_for : OneEnding ℕ → (command : Command) (bytes first second : List ℕ) (status other : Status) → GivesFor command bytes first status → GivesFor command bytes second other → IsSame first second status other
+one_for law (Hook question) bytes first second status other x y = one_replies law question (hook_lines bytes ended).status (hook_lines bytes ended).text first second status other x y
+one_for law Replay bytes first second status other x y =
     record { text = x.0 ∙ sym y.0; answer = same_status (replay_lines bytes ended).status status other x.1 y.1 }
-one_for Other bytes first second status other x y = record { text = x.0 ∙ sym y.0; answer = x.1 ∙ sym y.1 }
+one_for law Other bytes first second status other x y = record { text = x.0 ∙ sym y.0; answer = x.1 ∙ sym y.1 }
 
-pub one_answer : OneAnswer
-one_answer words bytes first second status other x y = one_for (command_of words) bytes first second status other x y
+pub one_answer : OneEnding ℕ → OneAnswer
+one_answer law words bytes first second status other x y = one_for law (command_of words) bytes first second status other x y
 
 -- what is given is the answer, but for want of memory
-pub exact_answer : (command : Command) (bytes text : List ℕ) (result status : Status) (before now : Option (List ℕ)) →
+pub exact_answer : OneEnding ℕ → (command : Command) (bytes text : List ℕ) (result status : Status) (before now : Option (List ℕ)) →
     (IsAnswer result → Answered command bytes result before now) → (result ≡ ReadFault → ⊥) → (result ≡ WriteFault → ⊥) →
     GivesFor command bytes text status → (result ≡ status) ⊎ (result ≡ NoMemory)
-exact_answer command bytes text ReadFault status before now answered no_read no_write given = absurd (no_read refl)
-exact_answer command bytes text WriteFault status before now answered no_read no_write given = absurd (no_write refl)
-exact_answer command bytes text NoMemory status before now answered no_read no_write given = inr refl
-exact_answer command bytes text result status before now answered no_read no_write given =
-    let mine = answered tt in inl (one_for command bytes mine.text text result status mine.given given).answer
+exact_answer law command bytes text ReadFault status before now answered no_read no_write given = absurd (no_read refl)
+exact_answer law command bytes text WriteFault status before now answered no_read no_write given = absurd (no_write refl)
+exact_answer law command bytes text NoMemory status before now answered no_read no_write given = inr refl
+exact_answer law command bytes text result status before now answered no_read no_write given =
+    let mine = answered tt in inl (one_for law command bytes mine.text text result status mine.given given).answer

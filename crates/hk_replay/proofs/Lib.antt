@@ -1,5 +1,6 @@
 pub mod Ranges
 pub mod Texts
+pub mod OneRefusal
 pub mod Giving
 pub mod Stopping
 pub mod Conserving

@@ -4,14 +4,15 @@ use Rattle.std.specs.Io.KnownBytes.{Appends}
 use Rattle.hk_lines.specs.Given.{Close, opened, ended, Given, gives, IsFront}
 use Rattle.hk_lines.specs.Numbers.{longest_input}
 use Rattle.hk_lines.specs.declared.status.Status.{Status}
-use Rattle.hk_lines.specs.declared.status.Status.TheVariants.{Done, Usage, ReadFault, WriteFault, NoMemory, TooLong}
+use Rattle.hk_lines.specs.declared.status.Status.TheVariants.{Done, Usage, BadInput, ReadFault, WriteFault, NoMemory, HookRefused, TooLong}
 use Rattle.hk_loop.specs.Answers.{IsAnswer, WroteFront, Gave}
 use Rattle.hk_loop.specs.Through.{close_at, Leaves}
 use Rattle.hk_loop.proofs.Exits.{wrote_front}
 use Rattle.hk_base.specs.Outside.{Rose}
 use Rattle.hk_ledger.specs.Machine as machine
 use Rattle.hk_replay.specs.declared.command.Command.{Command}
-use Rattle.hk_replay.specs.declared.command.Command.TheVariants.{Run, Replay, Other}
+use Rattle.hk_replay.specs.declared.command.Command.TheVariants.{Hook, Replay, Other}
+use Rattle.hk_replay.specs.declared.command.Question.{Question}
 use Rattle.hk_replay.specs.HookLines.{hook_turn}
 use Rattle.hk_replay.specs.Replaying.{replay_turn}
 use Rattle.hk_replay.specs.Answers.{IsReply, Replies, hook_lines, replay_lines, usage_line}
@@ -45,140 +46,169 @@ pub replay_stops : (start : machine.State) (bytes : List ℕ) (status : Status) 
 replay_stops start bytes status left before now is l =
     replay_left bytes status left before now (subst (λ s. Leaves replay_turn longest_input s bytes status left before now) is l)
 
--- ---- run
+-- ---- check and run
 
--- a text that was written to memory
-shown_text : (text written : List ℕ) → Appends (Some []) (Some written) text → written ≡ text
-shown_text text written h = h
+module _ (question : Question) where
+  -- a text that was written to memory
+  shown_text : (text written : List ℕ) → Appends (Some []) (Some written) text → written ≡ text
+  shown_text text written h = h
 
--- right lines were answered by their code
-run_answers : (lines : Given) (code front : List ℕ) (status : Status) → lines.status ≡ Some Done → code ≡ lines.text → IsReply code front status →
-    Replies lines.status lines.text front status
-run_answers lines code front status over is reply =
-    subst (λ found. Replies found lines.text front status) (sym over) (subst (λ c. IsReply c front status) is reply)
+  -- right lines were answered by their code
+  run_answers : (lines : Given) (code front : List ℕ) (status : Status) → lines.status ≡ Some Done → code ≡ lines.text → IsReply question code front status →
+      Replies question lines.status lines.text front status
+  run_answers lines code front status over is reply =
+      subst (λ found. Replies question found lines.text front status) (sym over) (subst (λ c. IsReply question c front status) is reply)
 
-pub run_answered : (start : Option (List ℕ)) (bytes code : List ℕ) (status : Status) (before now shown : Option (List ℕ)) → start ≡ None →
-    shown ≡ Some [] → Gave (gives hook_turn longest_input start bytes) Done shown (Some code) → Tells code status before now → IsAnswer status →
-    Answered Run bytes status before now
-run_answered start bytes code status before now shown is empty gave tells answer =
-    let g : Gave (hook_lines bytes ended) Done (Some []) (Some code) =
-    subst (λ k. Gave (hook_lines bytes ended) Done k (Some code)) empty (subst (λ s. Gave (gives hook_turn longest_input s bytes) Done shown (Some code)) is gave) in
-    record {
-      text = tells.front;
-      given = run_answers (hook_lines bytes ended) code tells.front status g.ended (shown_text (hook_lines bytes ended).text code g.wrote) (tells.answered answer);
-      wrote = tells.wrote;
+  pub run_answered : (start : Option (List ℕ)) (bytes code : List ℕ) (status : Status) (before now shown : Option (List ℕ)) → start ≡ None →
+      shown ≡ Some [] → Gave (gives hook_turn longest_input start bytes) Done shown (Some code) → Tells question code status before now → IsAnswer status →
+      Answered (Hook question) bytes status before now
+  run_answered start bytes code status before now shown is empty gave tells answer =
+      let g : Gave (hook_lines bytes ended) Done (Some []) (Some code) =
+      subst (λ k. Gave (hook_lines bytes ended) Done k (Some code)) empty (subst (λ s. Gave (gives hook_turn longest_input s bytes) Done shown (Some code)) is gave) in
+      record {
+        text = tells.front;
+        given = run_answers (hook_lines bytes ended) code tells.front status g.ended (shown_text (hook_lines bytes ended).text code g.wrote) (tells.answered answer);
+        wrote = tells.wrote;
+      }
+
+  -- nothing was due for all but the last bytes
+  nothing_due : (found : Option Status) (shown text front : List ℕ) → found ≡ None → RepliesDue question found shown text → IsFront text front
+  nothing_due None shown text front none due = (front, ap (λ t. t ++ front) (sym due))
+  nothing_due (Some status) shown text front none due = absurd (cc)
+
+  -- what was written of the answer to the lines, or nothing
+  module _ (bytes : List ℕ) (status : Status) (left shown written before now : Option (List ℕ)) (l : Leaves hook_turn longest_input None bytes status left shown written) where
+    run_left : (answer : Status) (front : List ℕ) → Appends before now front → (answer ≡ TooLong → status ≡ TooLong) →
+        (front ≡ []) ⊎ WroteDue (Hook question) l.taken (close_at l.rest) front → Stops (Hook question) bytes answer left before now
+    run_left answer front wrote full due = record {
+      taken = l.taken;
+      rest = l.rest;
+      front = front;
+      split = l.split;
+      told = l.told;
+      wrote = wrote;
+      few = l.few;
+      full = λ long. l.full (full long);
+      due = due;
+      prompt = λ early late text parts much is. nothing_due (hook_lines early opened).status (hook_lines early opened).text text front (l.goes early late parts much) is;
     }
 
--- nothing was due for all but the last bytes
-nothing_due : (found : Option Status) (shown text front : List ℕ) → found ≡ None → RepliesDue found shown text → IsFront text front
-nothing_due None shown text front none due = (front, ap (λ t. t ++ front) (sym due))
-nothing_due (Some status) shown text front none due = absurd (cc)
+  -- right lines, and what was written of the answer to their code
+  reply_due : (lines : Given) (code front : List ℕ) → lines.status ≡ Some Done → code ≡ lines.text →
+      (front ≡ []) ⊎ ((text : List ℕ) × (other : Status) × IsReply question code text other × IsFront front text) →
+      (front ≡ []) ⊎ ((text : List ℕ) × RepliesDue question lines.status lines.text text × IsFront front text)
+  reply_due lines code front over is (inl none) = inl none
+  reply_due lines code front over is (inr (text, other, reply, more)) =
+      inr (text, subst (λ found. RepliesDue question found lines.text text) (sym over) (other, subst (λ c. IsReply question c text other) is reply), more)
 
--- what was written of the answer to the lines, or nothing
-module _ (bytes : List ℕ) (status : Status) (left shown written before now : Option (List ℕ)) (l : Leaves hook_turn longest_input None bytes status left shown written) where
-  run_left : (answer : Status) (front : List ℕ) → Appends before now front → (answer ≡ TooLong → status ≡ TooLong) →
-      (front ≡ []) ⊎ WroteDue Run l.taken (close_at l.rest) front → Stops Run bytes answer left before now
-  run_left answer front wrote full due = record {
-    taken = l.taken;
-    rest = l.rest;
-    front = front;
-    split = l.split;
-    told = l.told;
+  no_reply_too_long : (code front : List ℕ) (status : Status) → (IsAnswer status → IsReply question code front status) → status ≡ TooLong → ⊥
+  no_reply_too_long code front status answered is = let r : IsReply question code front TooLong = subst (λ s. IsReply question code front s) is (answered (subst IsAnswer (sym is) tt)) in r
+
+  due_of : (front taken : List ℕ) (close : Close) → (front ≡ []) ⊎ ((text : List ℕ) × DueFor (Hook question) taken close text × IsFront front text) → (front ≡ []) ⊎ WroteDue (Hook question) taken close front
+  due_of front taken close (inl none) = inl none
+  due_of front taken close (inr (text, due, is)) = inr (record { text = text; due = due; is = is })
+
+  run_done : (bytes code : List ℕ) (status : Status) (left before now : Option (List ℕ)) → Leaves hook_turn longest_input None bytes Done left (Some []) (Some code) →
+      Tells question code status before now → Stops (Hook question) bytes status left before now
+  run_done bytes code status left before now l tells =
+      let g : Gave (hook_lines l.taken (close_at l.rest)) Done (Some []) (Some code) = l.answered tt in
+      run_left bytes Done left (Some []) (Some code) before now l status tells.front tells.wrote
+      (λ long. absurd (no_reply_too_long code tells.front status tells.answered long))
+      (due_of tells.front l.taken (close_at l.rest)
+      (reply_due (hook_lines l.taken (close_at l.rest)) code tells.front g.ended (shown_text (hook_lines l.taken (close_at l.rest)).text code g.wrote) tells.due))
+
+  pub run_done_stops : (start : Option (List ℕ)) (bytes code : List ℕ) (status : Status) (left before now shown : Option (List ℕ)) → start ≡ None → shown ≡ Some [] →
+      Leaves hook_turn longest_input start bytes Done left shown (Some code) → Tells question code status before now → Stops (Hook question) bytes status left before now
+  run_done_stops start bytes code status left before now shown none empty l tells =
+      run_done bytes code status left before now
+      (subst (λ k. Leaves hook_turn longest_input None bytes Done left k (Some code)) empty (subst (λ s. Leaves hook_turn longest_input s bytes Done left shown (Some code)) none l)) tells
+
+  writes_none : (known : Option (List ℕ)) → Appends known known []
+  writes_none None = tt
+  writes_none (Some written) = sym (append-nil written)
+
+  -- a fault or want of memory before anything was written
+  pub run_silent : (start : Option (List ℕ)) (bytes : List ℕ) (status : Status) (left before shown written : Option (List ℕ)) → start ≡ None →
+      Leaves hook_turn longest_input start bytes status left shown written → Stops (Hook question) bytes status left before before
+  run_silent start bytes status left before shown written none l =
+      run_left bytes status left shown written before before (subst (λ s. Leaves hook_turn longest_input s bytes status left shown written) none l) status []
+      (writes_none before) (λ long. long) (inl refl)
+
+  -- wrong lines are answered by what they give
+  other_replies : (found : Option Status) (status : Status) (shown : List ℕ) → found ≡ Some status → status ≢ Done → Replies question found shown shown status
+  other_replies found status shown is apart = subst (λ f. Replies question f shown shown status) (sym is) (of status apart) where
+    of : (status : Status) → status ≢ Done → Replies question (Some status) shown shown status
+    of Done apart = absurd (apart refl)
+    of other apart = (refl, refl)
+
+  other_due : (found : Option Status) (status : Status) (shown : List ℕ) → found ≡ Some status → status ≢ Done → RepliesDue question found shown shown
+  other_due found status shown is apart = subst (λ f. RepliesDue question f shown shown) (sym is) (of status apart) where
+    of : (status : Status) → status ≢ Done → RepliesDue question (Some status) shown shown
+    of Done apart = absurd (apart refl)
+    of other apart = refl
+
+  pub run_other_answered : (start : Option (List ℕ)) (bytes code : List ℕ) (status result : Status) (before now shown : Option (List ℕ)) → start ≡ None →
+      shown ≡ Some [] → status ≢ Done → Gave (gives hook_turn longest_input start bytes) status shown (Some code) → result ≡ status → Appends before now code →
+      Answered (Hook question) bytes result before now
+  run_other_answered start bytes code status result before now shown none empty apart gave is wrote =
+      let g : Gave (hook_lines bytes ended) status (Some []) (Some code) =
+      subst (λ k. Gave (hook_lines bytes ended) status k (Some code)) empty (subst (λ s. Gave (gives hook_turn longest_input s bytes) status shown (Some code)) none gave) in
+      let same : code ≡ (hook_lines bytes ended).text = shown_text (hook_lines bytes ended).text code g.wrote in
+      record {
+        text = (hook_lines bytes ended).text;
+        given = subst (λ s. Replies question (hook_lines bytes ended).status (hook_lines bytes ended).text (hook_lines bytes ended).text s) (sym is)
+            (other_replies (hook_lines bytes ended).status status (hook_lines bytes ended).text g.ended apart);
+        wrote = subst (λ t. Appends before now t) same wrote;
+      }
+
+  run_other : (bytes code : List ℕ) (status result : Status) (left before now : Option (List ℕ)) → IsAnswer status → status ≢ Done →
+      Leaves hook_turn longest_input None bytes status left (Some []) (Some code) → (result ≡ TooLong → status ≡ TooLong) → WroteFront code before now →
+      Stops (Hook question) bytes result left before now
+  run_other bytes code status result left before now answer apart l full w =
+      let lines : Given = hook_lines l.taken (close_at l.rest) in
+      let g : Gave lines status (Some []) (Some code) = l.answered answer in
+      run_left bytes status left (Some []) (Some code) before now l result w.front w.wrote full
+      (inr (record {
+        text = lines.text;
+        due = other_due lines.status status lines.text g.ended apart;
+        is = (w.more, sym (shown_text lines.text code g.wrote) ∙ w.whole);
+      }))
+
+  pub run_other_stops : (start : Option (List ℕ)) (bytes code : List ℕ) (status result : Status) (left before now shown : Option (List ℕ)) → start ≡ None → shown ≡ Some [] →
+      IsAnswer status → status ≢ Done → Leaves hook_turn longest_input start bytes status left shown (Some code) → (result ≡ TooLong → status ≡ TooLong) →
+      (IsAnswer result → (result ≡ status) × Appends before now code) → ((IsAnswer result → ⊥) → WroteFront code before now) → Stops (Hook question) bytes result left before now
+  run_other_stops start bytes code status result left before now shown none empty answer apart l full whole front =
+      run_other bytes code status result left before now answer apart
+      (subst (λ k. Leaves hook_turn longest_input None bytes status left k (Some code)) empty (subst (λ s. Leaves hook_turn longest_input s bytes status left shown (Some code)) none l)) full
+      (wrote_front result (record { text = code; status = Some result }) before now (λ is. record { wrote = (whole is).1; ended = refl }) front)
+
+-- a code's answer was written, or a front of it
+module _ (question : Question) (code text : List ℕ) (status : Status) (before now : Option (List ℕ)) (reply : IsReply question code text status) where
+  told_all : (result : Status) → (result ≡ status) × Appends before now text → Tells question code result before now
+  told_all result (is, wrote) = record {
+    front = text;
     wrote = wrote;
-    few = l.few;
-    full = λ long. l.full (full long);
-    due = due;
-    prompt = λ early late text parts much is. nothing_due (hook_lines early opened).status (hook_lines early opened).text text front (l.goes early late parts much) is;
+    answered = λ _. subst (λ s. IsReply question code text s) (sym is) reply;
+    due = inr (text, status, reply, ([], sym (append-nil text)));
   }
 
--- right lines, and what was written of the answer to their code
-reply_due : (lines : Given) (code front : List ℕ) → lines.status ≡ Some Done → code ≡ lines.text →
-    (front ≡ []) ⊎ ((text : List ℕ) × (other : Status) × IsReply code text other × IsFront front text) →
-    (front ≡ []) ⊎ ((text : List ℕ) × RepliesDue lines.status lines.text text × IsFront front text)
-reply_due lines code front over is (inl none) = inl none
-reply_due lines code front over is (inr (text, other, reply, more)) =
-    inr (text, subst (λ found. RepliesDue found lines.text text) (sym over) (other, subst (λ c. IsReply c text other) is reply), more)
+  told_front : (result : Status) → (IsAnswer result → ⊥) → WroteFront text before now → Tells question code result before now
+  told_front result none w = record {
+    front = w.front;
+    wrote = w.wrote;
+    answered = λ answer. absurd (none answer);
+    due = inr (text, status, reply, (w.more, w.whole));
+  }
 
-no_reply_too_long : (code front : List ℕ) (status : Status) → (IsAnswer status → IsReply code front status) → status ≡ TooLong → ⊥
-no_reply_too_long code front status answered is = let r : IsReply code front TooLong = subst (λ s. IsReply code front s) is (answered (subst IsAnswer (sym is) tt)) in r
-
-due_of : (front taken : List ℕ) (close : Close) → (front ≡ []) ⊎ ((text : List ℕ) × DueFor Run taken close text × IsFront front text) → (front ≡ []) ⊎ WroteDue Run taken close front
-due_of front taken close (inl none) = inl none
-due_of front taken close (inr (text, due, is)) = inr (record { text = text; due = due; is = is })
-
-run_done : (bytes code : List ℕ) (status : Status) (left before now : Option (List ℕ)) → Leaves hook_turn longest_input None bytes Done left (Some []) (Some code) →
-    Tells code status before now → Stops Run bytes status left before now
-run_done bytes code status left before now l tells =
-    let g : Gave (hook_lines l.taken (close_at l.rest)) Done (Some []) (Some code) = l.answered tt in
-    run_left bytes Done left (Some []) (Some code) before now l status tells.front tells.wrote
-    (λ long. absurd (no_reply_too_long code tells.front status tells.answered long))
-    (due_of tells.front l.taken (close_at l.rest)
-    (reply_due (hook_lines l.taken (close_at l.rest)) code tells.front g.ended (shown_text (hook_lines l.taken (close_at l.rest)).text code g.wrote) tells.due))
-
-pub run_done_stops : (start : Option (List ℕ)) (bytes code : List ℕ) (status : Status) (left before now shown : Option (List ℕ)) → start ≡ None → shown ≡ Some [] →
-    Leaves hook_turn longest_input start bytes Done left shown (Some code) → Tells code status before now → Stops Run bytes status left before now
-run_done_stops start bytes code status left before now shown none empty l tells =
-    run_done bytes code status left before now
-    (subst (λ k. Leaves hook_turn longest_input None bytes Done left k (Some code)) empty (subst (λ s. Leaves hook_turn longest_input s bytes Done left shown (Some code)) none l)) tells
-
-writes_none : (known : Option (List ℕ)) → Appends known known []
-writes_none None = tt
-writes_none (Some written) = sym (append-nil written)
-
--- a fault or want of memory before anything was written
-pub run_silent : (start : Option (List ℕ)) (bytes : List ℕ) (status : Status) (left before shown written : Option (List ℕ)) → start ≡ None →
-    Leaves hook_turn longest_input start bytes status left shown written → Stops Run bytes status left before before
-run_silent start bytes status left before shown written none l =
-    run_left bytes status left shown written before before (subst (λ s. Leaves hook_turn longest_input s bytes status left shown written) none l) status []
-    (writes_none before) (λ long. long) (inl refl)
-
--- wrong lines are answered by what they give
-other_replies : (found : Option Status) (status : Status) (shown : List ℕ) → found ≡ Some status → status ≢ Done → Replies found shown shown status
-other_replies found status shown is apart = subst (λ f. Replies f shown shown status) (sym is) (of status apart) where
-  of : (status : Status) → status ≢ Done → Replies (Some status) shown shown status
-  of Done apart = absurd (apart refl)
-  of other apart = (refl, refl)
-
-other_due : (found : Option Status) (status : Status) (shown : List ℕ) → found ≡ Some status → status ≢ Done → RepliesDue found shown shown
-other_due found status shown is apart = subst (λ f. RepliesDue f shown shown) (sym is) (of status apart) where
-  of : (status : Status) → status ≢ Done → RepliesDue (Some status) shown shown
-  of Done apart = absurd (apart refl)
-  of other apart = refl
-
-pub run_other_answered : (start : Option (List ℕ)) (bytes code : List ℕ) (status result : Status) (before now shown : Option (List ℕ)) → start ≡ None →
-    shown ≡ Some [] → status ≢ Done → Gave (gives hook_turn longest_input start bytes) status shown (Some code) → result ≡ status → Appends before now code →
-    Answered Run bytes result before now
-run_other_answered start bytes code status result before now shown none empty apart gave is wrote =
-    let g : Gave (hook_lines bytes ended) status (Some []) (Some code) =
-    subst (λ k. Gave (hook_lines bytes ended) status k (Some code)) empty (subst (λ s. Gave (gives hook_turn longest_input s bytes) status shown (Some code)) none gave) in
-    let same : code ≡ (hook_lines bytes ended).text = shown_text (hook_lines bytes ended).text code g.wrote in
-    record {
-      text = (hook_lines bytes ended).text;
-      given = subst (λ s. Replies (hook_lines bytes ended).status (hook_lines bytes ended).text (hook_lines bytes ended).text s) (sym is)
-          (other_replies (hook_lines bytes ended).status status (hook_lines bytes ended).text g.ended apart);
-      wrote = subst (λ t. Appends before now t) same wrote;
-    }
-
-run_other : (bytes code : List ℕ) (status result : Status) (left before now : Option (List ℕ)) → IsAnswer status → status ≢ Done →
-    Leaves hook_turn longest_input None bytes status left (Some []) (Some code) → (result ≡ TooLong → status ≡ TooLong) → WroteFront code before now →
-    Stops Run bytes result left before now
-run_other bytes code status result left before now answer apart l full w =
-    let lines : Given = hook_lines l.taken (close_at l.rest) in
-    let g : Gave lines status (Some []) (Some code) = l.answered answer in
-    run_left bytes status left (Some []) (Some code) before now l result w.front w.wrote full
-    (inr (record {
-      text = lines.text;
-      due = other_due lines.status status lines.text g.ended apart;
-      is = (w.more, sym (shown_text lines.text code g.wrote) ∙ w.whole);
-    }))
-
-pub run_other_stops : (start : Option (List ℕ)) (bytes code : List ℕ) (status result : Status) (left before now shown : Option (List ℕ)) → start ≡ None → shown ≡ Some [] →
-    IsAnswer status → status ≢ Done → Leaves hook_turn longest_input start bytes status left shown (Some code) → (result ≡ TooLong → status ≡ TooLong) →
-    (IsAnswer result → (result ≡ status) × Appends before now code) → ((IsAnswer result → ⊥) → WroteFront code before now) → Stops Run bytes result left before now
-run_other_stops start bytes code status result left before now shown none empty answer apart l full whole front =
-    run_other bytes code status result left before now answer apart
-    (subst (λ k. Leaves hook_turn longest_input None bytes status left k (Some code)) empty (subst (λ s. Leaves hook_turn longest_input s bytes status left shown (Some code)) none l)) full
-    (wrote_front result (record { text = code; status = Some result }) before now (λ is. record { wrote = (whole is).1; ended = refl }) front)
+  pub told : (result : Status) → (IsAnswer result → (result ≡ status) × Appends before now text) → ((IsAnswer result → ⊥) → WroteFront text before now) → Tells question code result before now
+  told ReadFault whole front = told_front ReadFault (λ a. a) (front (λ a. a))
+  told WriteFault whole front = told_front WriteFault (λ a. a) (front (λ a. a))
+  told NoMemory whole front = told_front NoMemory (λ a. a) (front (λ a. a))
+  told Done whole front = told_all Done (whole tt)
+  told Usage whole front = told_all Usage (whole tt)
+  told BadInput whole front = told_all BadInput (whole tt)
+  told HookRefused whole front = told_all HookRefused (whole tt)
+  told TooLong whole front = told_all TooLong (whole tt)
 
 -- no fault of the sink in memory, and no other accident
 pub answers : (status : Status) → status ≢ ReadFault → status ≢ WriteFault → status ≢ NoMemory → IsAnswer status

@@ -1,12 +1,16 @@
 -- What the program prints and answers, by its words and the bytes of its input (this project's own).
-use Rattle.std.specs.Prelude.{ℕ, ◌≡◌, List, [], ◌∷◌, ◌++◌, codes, if◌then◌else◌, Option, Some, None}
+use Rattle.std.specs.Prelude.{ℕ, pos, ◌≡◌, ◌≢◌, List, [], ◌∷◌, ◌++◌, codes, if◌then◌else◌, Option, Some, None}
+use Rattle.std.specs.Fmt.{decimal}
 use Rattle.std.specs.Str.{bytes_eq}
+use Rattle.hk_base.specs.Hexadecimal.{hex_text}
 use Rattle.hk_base.specs.declared.outcome.Outcome.{Outcome}
-use Rattle.wa_ops.specs.declared.op.Op.{Op}
-use Rattle.wa_ops.specs.Sequences.{Sequence}
-use Rattle.wa_exec.specs.Machine.{Ends}
-use Rattle.wa_exec.specs.Bound.{bound}
-use Rattle.wa_exec.specs.Taken.{IsTaken, hook_context, hook_start}
+use Rattle.wa_ops.specs.HookRules.{is_hook}
+use Rattle.wa_machine.specs.Machine.{HostMeaning}
+use Rattle.wa_run.specs.Calls.{meaning_of}
+use Rattle.hk_bound.specs.Checks.{Held, Holds, IsRefused}
+use Rattle.hk_bound.specs.declared.fault.CheckFault.{CheckFault}
+use Rattle.hk_bound.specs.declared.fault.CheckFault.TheVariants as fault
+use Rattle.wa_exec.specs.Runs.{IsRun}
 use Rattle.hk_lines.specs.Given.{Close, ended, Given, given}
 use Rattle.hk_lines.specs.Numbers.{longest_input}
 use Rattle.hk_lines.specs.OutputForms.{line_text}
@@ -15,41 +19,74 @@ use Rattle.hk_lines.specs.declared.status.Status.{Status}
 use Rattle.hk_lines.specs.declared.status.Status.TheVariants.{Done, Usage, BadInput, ReadFault, WriteFault, NoMemory, HookRefused, TooLong}
 use Rattle.hk_ledger.specs.Machine as machine
 use Rattle.hk_replay.specs.declared.command.Command.{Command}
-use Rattle.hk_replay.specs.declared.command.Command.TheVariants.{Run, Replay, Other}
+use Rattle.hk_replay.specs.declared.command.Command.TheVariants.{Hook, Replay, Other}
+use Rattle.hk_replay.specs.declared.command.Question.{Question}
+use Rattle.hk_replay.specs.declared.command.Question.TheVariants.{Check, Run}
 use Rattle.hk_replay.specs.HookLines.{hook_turn}
+use Rattle.hk_replay.specs.Refusals.{refused_line}
 use Rattle.hk_replay.specs.Replaying.{replay_turn}
 
 -- the command that the words name
 abbrev pub command_of : List (List ℕ) → Command
-command_of (word ∷ []) = if bytes_eq word (codes "run") then Run else if bytes_eq word (codes "replay") then Replay else Other
+command_of (word ∷ []) =
+    if bytes_eq word (codes "check") then Hook Check
+    else if bytes_eq word (codes "run") then Hook Run
+    else if bytes_eq word (codes "replay") then Replay
+    else Other
 command_of words = Other
 
 abbrev pub usage_line : List ℕ
 usage_line = codes "usage: hooks check | run | replay | demo N" ++ 10 ∷ []
 
-abbrev pub refused_line : List ℕ
-refused_line = codes "refused not yet" ++ 10 ∷ []
+-- the bound of `cbak`, or a dash
+abbrev pub cbak_text : Option ℕ → List ℕ
+cbak_text None = 45 ∷ []
+cbak_text (Some bound) = decimal bound
 
--- the body of `hook`, run with argument 0 to its end, has this line
-pub record IsLineOf (tree : Sequence) (text : List ℕ) : Type 0 where
+-- the line of an accepted code: its hash and its bounds
+abbrev pub accepted_line : Held → List ℕ
+accepted_line held =
+    codes "ok "
+    ++ (hex_text held.hash.0 ++ (codes " hook " ++ (decimal held.bound_hook ++ (codes " cbak " ++ (cbak_text held.bound_cbak ++ 10 ∷ [])))))
+
+-- the code is accepted, and told so
+pub record IsAccepted (code text : List ℕ) : Type 0 where
+  pub held : Held
+  pub holds : Holds code held
+  pub line : text ≡ accepted_line held
+
+-- a host of no calls: it has one state
+abbrev pub no_calls : HostMeaning ℕ
+no_calls = meaning_of (λ state row arguments memory. pos 0) (λ state row arguments memory. memory) (λ state row arguments memory. state)
+
+-- the code is accepted, and the line is that of its `hook`, run with argument 0 to its end
+pub record IsRunOf (code text : List ℕ) : Type 0 where
+  pub held : Held
+  pub holds : Holds code held
   pub outcome : Outcome
   pub count : ℕ
-  pub ended : Ends hook_context count (hook_start 0 tree) outcome
-  pub line : text ≡ line_text (printed.Run outcome count (bound tree))
+  pub after : ℕ
+  pub run : IsRun no_calls held.wasm is_hook 0 0 outcome count after
+  pub line : text ≡ line_text (printed.Run outcome count held.bound_hook)
 
--- the code is taken, and its run has this line
-pub record IsRunOf (code text : List ℕ) : Type 0 where
-  pub ops : List Op
-  pub taken : IsTaken code ops
-  pub run : IsLineOf taken.tree text
+-- the code is refused, and told so
+pub record IsRefusal (code text : List ℕ) : Type 0 where
+  pub found : CheckFault
+  pub refused : IsRefused code found
+  pub named : found ≢ fault.NoMemory
+  pub line : text ≡ refused_line found
 
--- what a code is answered: its run, or that it isn't taken
-abbrev pub IsReply : List ℕ → List ℕ → Status → Type 0
-IsReply code text Done = IsRunOf code text
-IsReply code text HookRefused = ((ops : List Op) → IsTaken code ops → ⊥) × (text ≡ refused_line)
-IsReply code text status = ⊥
+abbrev pub Accepts : Question → List ℕ → List ℕ → Type 0
+Accepts Check code text = IsAccepted code text
+Accepts Run code text = IsRunOf code text
 
--- the lines of `run`, which give the hook's code where they are right
+-- what a code is answered
+abbrev pub IsReply : Question → List ℕ → List ℕ → Status → Type 0
+IsReply question code text Done = Accepts question code text
+IsReply question code text HookRefused = IsRefusal code text
+IsReply question code text status = ⊥
+
+-- the lines of `check` and `run`, which give the hook's code where they are right
 abbrev pub hook_lines : List ℕ → Close → Given
 hook_lines bytes close = given hook_turn longest_input None bytes close
 
@@ -58,14 +95,14 @@ abbrev pub replay_lines : List ℕ → Close → Given
 replay_lines bytes close = given replay_turn longest_input machine.start bytes close
 
 -- right lines are answered by their code, and others by what they give
-abbrev pub Replies : Option Status → List ℕ → List ℕ → Status → Type 0
-Replies (Some Done) code text status = IsReply code text status
-Replies (Some other) shown text status = (text ≡ shown) × (status ≡ other)
-Replies None shown text status = ⊥
+abbrev pub Replies : Question → Option Status → List ℕ → List ℕ → Status → Type 0
+Replies question (Some Done) code text status = IsReply question code text status
+Replies question (Some other) shown text status = (text ≡ shown) × (status ≡ other)
+Replies question None shown text status = ⊥
 
 -- the text and the status that a command gives for this input
 abbrev pub GivesFor : Command → List ℕ → List ℕ → Status → Type 0
-GivesFor Run bytes text status = Replies (hook_lines bytes ended).status (hook_lines bytes ended).text text status
+GivesFor (Hook question) bytes text status = Replies question (hook_lines bytes ended).status (hook_lines bytes ended).text text status
 GivesFor Replay bytes text status = (text ≡ (replay_lines bytes ended).text) × ((replay_lines bytes ended).status ≡ Some status)
 GivesFor Other bytes text status = (text ≡ usage_line) × (status ≡ Usage)
 

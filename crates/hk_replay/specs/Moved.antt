@@ -8,7 +8,8 @@ use Rattle.hk_lines.specs.declared.status.Status.TheVariants.{Done, Usage, Write
 use Rattle.hk_loop.specs.Answers.{IsAnswer, WroteFront}
 use Rattle.hk_loop.specs.Through.{close_at}
 use Rattle.hk_replay.specs.declared.command.Command.{Command}
-use Rattle.hk_replay.specs.declared.command.Command.TheVariants.{Run, Replay, Other}
+use Rattle.hk_replay.specs.declared.command.Command.TheVariants.{Hook, Replay, Other}
+use Rattle.hk_replay.specs.declared.command.Question.{Question}
 use Rattle.hk_replay.specs.Answers.{GivesFor, IsReply, hook_lines, replay_lines, usage_line}
 
 -- a text was written that is given with this status
@@ -17,15 +18,15 @@ pub record Answered (command : Command) (bytes : List ℕ) (status : Status) (be
   pub given : GivesFor command bytes text status
   pub wrote : Appends before now text
 
--- the text that lines of `run` make due: nothing while they go on, then what they are answered
-abbrev pub RepliesDue : Option Status → List ℕ → List ℕ → Type 0
-RepliesDue (Some Done) code text = (status : Status) × IsReply code text status
-RepliesDue (Some other) shown text = text ≡ shown
-RepliesDue None shown text = text ≡ []
+-- the text that lines with one hook make due: nothing while they go on, then what they are answered
+abbrev pub RepliesDue : Question → Option Status → List ℕ → List ℕ → Type 0
+RepliesDue question (Some Done) code text = (status : Status) × IsReply question code text status
+RepliesDue question (Some other) shown text = text ≡ shown
+RepliesDue question None shown text = text ≡ []
 
 -- the text that is due once these bytes were taken, by what comes behind them
 abbrev pub DueFor : Command → List ℕ → Close → List ℕ → Type 0
-DueFor Run bytes close text = RepliesDue (hook_lines bytes close).status (hook_lines bytes close).text text
+DueFor (Hook question) bytes close text = RepliesDue question (hook_lines bytes close).status (hook_lines bytes close).text text
 DueFor Replay bytes close text = text ≡ (replay_lines bytes close).text
 DueFor Other bytes close text = text ≡ usage_line
 
@@ -59,8 +60,8 @@ TellsUsage NoMemory before now = WroteFront usage_line before now
 TellsUsage status before now = ⊥
 
 -- a code's answer was written, or a front of it, if anything was
-pub record Tells (code : List ℕ) (status : Status) (before now : Option (List ℕ)) : Type 0 where
+pub record Tells (question : Question) (code : List ℕ) (status : Status) (before now : Option (List ℕ)) : Type 0 where
   pub front : List ℕ
   pub wrote : Appends before now front
-  pub answered : IsAnswer status → IsReply code front status
-  pub due : (front ≡ []) ⊎ ((text : List ℕ) × (other : Status) × IsReply code text other × IsFront front text)
+  pub answered : IsAnswer status → IsReply question code front status
+  pub due : (front ≡ []) ⊎ ((text : List ℕ) × (other : Status) × IsReply question code text other × IsFront front text)

@@ -2,10 +2,15 @@ ghost use Rattle.hk_replay.specs.Answers.{OneAnswer};
 ghost use Rattle.hk_replay.specs.HookLines.{HookFolds};
 ghost use Rattle.hk_replay.specs.ReplayLines.{ReplayFolds};
 
+use crate::no_host::NoHost;
+use wa_exec::one_ending;
+
 /// The law that words and an input have one text and one status.
 pub fn one_answer()
     ensures law { OneAnswer }
-{}
+{
+    one_ending::<NoHost>();
+}
 
 /// A replay is the lines of its input, with the ledger machine folded over them.
 pub fn replay_folds()

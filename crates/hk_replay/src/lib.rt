@@ -4,7 +4,9 @@
 mod command;
 mod hook_lines;
 mod laws;
+mod no_host;
 mod program;
+mod refusal;
 mod replaying;
 mod reply;
 mod status;

@@ -7,21 +7,24 @@ ghost use Rattle.hk_replay.specs.Answers.{command_of, Gives, IsReply};
 ghost use Rattle.hk_replay.specs.Conserved.{Conserved};
 ghost use Rattle.hk_replay.specs.Moved.{Answered, Stops, TellsUsage, Tells};
 
-use crate::command::{Command, command_of};
+use crate::command::{Command, Question, command_of};
 use crate::hook_lines::HookLines;
+use crate::no_host::NoHost;
 use crate::replaying::Replaying;
 use crate::reply::reply_to;
 use hk_base::{HonestSink, Sink, Source};
 use hk_lines::Status;
 use hk_loop::{go_through, write_answer};
 use std::alloc::Global;
+use wa_exec::one_ending;
 
 /// The most bytes of input that are taken.
 const LONGEST_INPUT: usize = 1_073_741_824;
 
 /// The program, by its words, its input and its output.
 ///
-/// `run` reads one `hook` line and `end`, checks the hook's code, runs it once with argument 0, and prints the line of its ending.
+/// `check` reads one `hook` line and `end`, checks the hook's code, and prints its hash and bounds, or why it is refused. `run` runs
+/// an accepted code once with argument 0 besides, and prints the line of its ending.
 /// `replay` reads accounts, ledgers and transactions up to `end`, and prints what each of them does, and at the end all accounts.
 /// All other words print the usage line.
 pub fn top<S: Source, K: Sink>(
@@ -58,8 +61,9 @@ pub fn top<S: Source, K: Sink>(
     ensures source_count { S.faults source.old ≤ S.faults source.new }
     ensures sink_count { K.faults sink.old ≤ K.faults sink.new }
 {
+    one_ending::<NoHost>();
     match command_of(words) {
-        Command::Run => run(alloc, source, sink),
+        Command::Hook(question) => answer_hook(alloc, question, source, sink),
         Command::Replay => replay(alloc, source, sink),
         Command::Other => write_answer(
             sink,
@@ -87,13 +91,18 @@ fn replay<S: Source, K: Sink>(alloc: Global, source: &mut S, sink: &mut K) -> St
     go_through(alloc, LONGEST_INPUT, &mut replaying, source, sink)
 }
 
-// The command `run`. Its lines give the hook's code, or what is wrong with them; both are written to memory first.
-fn run<S: Source, K: Sink>(alloc: Global, source: &mut S, sink: &mut K) -> Status
+// The commands `check` and `run`. Their lines give the hook's code, or what is wrong with them; both are written to memory first.
+fn answer_hook<S: Source, K: Sink>(
+    alloc: Global,
+    question: Question,
+    source: &mut S,
+    sink: &mut K,
+) -> Status
     ensures answered { IsAnswer result → (bytes : List ℕ) → S.left source.old ≡ Some bytes →
-        Answered Command.Run bytes result (K.written sink.old) (K.written sink.new) }
+        Answered (Command.Hook question) bytes result (K.written sink.old) (K.written sink.new) }
     ensures no_usage { result ≢ Status.Usage }
     ensures stops { (bytes : List ℕ) → S.left source.old ≡ Some bytes →
-        Stops Command.Run bytes result (S.left source.new) (K.written sink.old) (K.written sink.new) }
+        Stops (Command.Hook question) bytes result (S.left source.new) (K.written sink.old) (K.written sink.new) }
     ensures read_fault { result ≡ Status.ReadFault → Rose (S.faults source.old) (S.faults source.new) }
     ensures write_fault { result ≡ Status.WriteFault → Rose (K.faults sink.old) (K.faults sink.new) }
     ensures source_count { S.faults source.old ≤ S.faults source.new }
@@ -102,7 +111,7 @@ fn run<S: Source, K: Sink>(alloc: Global, source: &mut S, sink: &mut K) -> Statu
     let mut lines = HookLines::new();
     let mut shown = HonestSink::new(alloc);
     match go_through(alloc, LONGEST_INPUT, &mut lines, source, &mut shown) {
-        Status::Done => answer(alloc, shown.written(), sink),
+        Status::Done => answer_code(alloc, question, shown.written(), sink),
         Status::ReadFault => Status::ReadFault,
         Status::NoMemory => Status::NoMemory,
         status => write_answer(sink, shown.written(), status),
@@ -110,14 +119,14 @@ fn run<S: Source, K: Sink>(alloc: Global, source: &mut S, sink: &mut K) -> Statu
 }
 
 // Writes what a code is answered.
-fn answer<K: Sink>(alloc: Global, code: &[u8], sink: &mut K) -> Status
-    ensures told { Tells code.now result (K.written sink.old) (K.written sink.new) }
+fn answer_code<K: Sink>(alloc: Global, question: Question, code: &[u8], sink: &mut K) -> Status
+    ensures told { Tells question code.now result (K.written sink.old) (K.written sink.new) }
     ensures no_read_fault { result ≢ Status.ReadFault }
     ensures no_usage { result ≢ Status.Usage }
     ensures write_fault { result ≡ Status.WriteFault → Rose (K.faults sink.old) (K.faults sink.new) }
     ensures later { K.faults sink.old ≤ K.faults sink.new }
 {
-    match reply_to(alloc, code) {
+    match reply_to(alloc, question, code) {
         Ok(reply) => write_answer(sink, reply.text.as_slice(), reply.status),
         Err(_) => Status::NoMemory,
     }

@@ -39,10 +39,18 @@ pub(crate) fn refused_line(alloc: Global, fault: CheckFault) -> Result<String, N
 fn rule_line(alloc: Global, name: &str, place: Place) -> Result<String, NoMemory>
     ensures line { IfOk result (λ line. string_bytes line ≡ codes "refused " ++ (name.now ++ place_text place)) }
 {
+    let rest = place_text(alloc, place)?;
+    format!(in alloc; "refused {name}{rest}")
+}
+
+// What follows the name of a rule.
+fn place_text(alloc: Global, place: Place) -> Result<String, NoMemory>
+    ensures text { IfOk result (λ text. string_bytes text ≡ place_text place) }
+{
     match place {
-        Place::Whole => format!(in alloc; "refused {name}\n"),
-        Place::Item(index) => format!(in alloc; "refused {name} {index}\n"),
-        Place::Op { func, op } => format!(in alloc; "refused {name} {func} {op}\n"),
+        Place::Whole => String::from_str(alloc, "\n"),
+        Place::Item(index) => format!(in alloc; " {index}\n"),
+        Place::Op { func, op } => format!(in alloc; " {func} {op}\n"),
     }
 }
 

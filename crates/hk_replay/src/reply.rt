@@ -1,12 +1,17 @@
 //! What a code is answered.
-ghost use Rattle.std.specs.Prelude.{◌≡◌, List, ℕ, IfOk};
-ghost use Rattle.wa_ops.specs.Sequences.{Sequence, Reads};
-ghost use Rattle.hk_replay.specs.Answers.{IsReply, IsLineOf};
+ghost use Rattle.std.specs.Prelude.{◌≡◌, List, ℕ, IfOk, string_bytes};
+ghost use Rattle.hk_base.specs.Hexadecimal.{hex_text};
+ghost use Rattle.hk_bound.specs.Checks.{Holds};
+ghost use Rattle.hk_replay.specs.Answers.{IsReply, IsRunOf, Accepts, accepted_line, cbak_text};
 
-use hk_base::NoMemory;
+use crate::command::Question;
+use crate::no_host::NoHost;
+use crate::refusal::refused_line;
+use hk_base::{Hash256, NoMemory};
+use hk_bound::{CheckFault, Checked, check};
 use hk_lines::{OutputLine, Status, print_line};
 use std::alloc::{AllocError, Global};
-use wa_exec::{CheckFault, Checked, Ended, Export, Instance, check};
+use wa_exec::{Ended, Export, Instance};
 
 /// A text and a status.
 #[derive(Debug, Drop)]
@@ -15,35 +20,77 @@ pub(crate) struct Reply {
     pub(crate) status: Status,
 }
 
-/// What a code is answered: it is checked, and its hook run once with argument 0.
-pub(crate) fn reply_to(alloc: Global, code: &[u8]) -> Result<Reply, NoMemory>
-    ensures reply { IfOk result (λ reply. IsReply code.now reply.text.items reply.status) }
+/// What a code is answered: it is checked, and where it is to be run and is accepted, its `hook` is run once with argument 0.
+pub(crate) fn reply_to(alloc: Global, question: Question, code: &[u8]) -> Result<Reply, NoMemory>
+    ensures reply { IfOk result (λ reply. IsReply question code.now reply.text.items reply.status) }
 {
     match check(alloc, code) {
         Ok(checked) => {
-            let text = run_to_end(alloc, &checked)?;
+            let text = accepted(alloc, question, &checked)?;
             Ok(Reply {
                 text,
                 status: Status::Done,
             })
         }
-        Err(CheckFault::NotYet) => {
-            let text = Vec::from_slice(alloc, b"refused not yet\n")?;
+        Err(CheckFault::NoMemory) => Err(AllocError),
+        Err(fault) => {
+            let line = refused_line(alloc, fault)?;
+            let text = Vec::from_slice(alloc, line.as_bytes())?;
             Ok(Reply {
                 text,
                 status: Status::HookRefused,
             })
         }
-        Err(CheckFault::NoMemory) => Err(AllocError),
+    }
+}
+
+// What an accepted code is answered.
+fn accepted(alloc: Global, question: Question, checked: &Checked) -> Result<Vec<u8>, NoMemory>
+    ensures accepts { IfOk result (λ text. (code : List ℕ) → Holds code checked.now → Accepts question code text.items) }
+{
+    match question {
+        Question::Check => {
+            let line = accepted_line(alloc, checked)?;
+            Vec::from_slice(alloc, line.as_bytes())
+        }
+        Question::Run => run_to_end(alloc, checked),
+    }
+}
+
+// The line of an accepted code: its hash and its bounds.
+fn accepted_line(alloc: Global, checked: &Checked) -> Result<String, NoMemory>
+    ensures line { IfOk result (λ line. string_bytes line ≡ accepted_line checked.now) }
+{
+    let hash = hash_text(alloc, &checked.hash())?;
+    let bound = checked.bound_hook();
+    let cbak = cbak_text(alloc, checked.bound_cbak())?;
+    format!(in alloc; "ok {hash} hook {bound} cbak {cbak}\n")
+}
+
+// A hash in lower-case hex.
+fn hash_text(alloc: Global, hash: &Hash256) -> Result<String, NoMemory>
+    ensures text { IfOk result (λ text. string_bytes text ≡ hex_text hash.now.0) }
+{
+    hex::encode(alloc, &hash.0)
+}
+
+// The bound of `cbak`, or a dash.
+fn cbak_text(alloc: Global, bound: Option<u64>) -> Result<String, NoMemory>
+    ensures text { IfOk result (λ text. string_bytes text ≡ cbak_text bound) }
+{
+    match bound {
+        None => String::from_str(alloc, "-"),
+        Some(bound) => format!(in alloc; "{bound}"),
     }
 }
 
 // Runs `hook` with argument 0, and answers the line of its ending.
 fn run_to_end(alloc: Global, checked: &Checked) -> Result<Vec<u8>, NoMemory>
-    ensures line { IfOk result (λ text. (tree : Sequence) → Reads checked.now tree → IsLineOf tree text.items) }
+    ensures line { IfOk result (λ text. (code : List ℕ) → Holds code checked.now → IsRunOf code text.items) }
 {
     let instance = Instance::new(alloc, checked, Export::Hook, 0)?;
-    let Ended { outcome, count } = instance.run(checked);
+    let mut host = NoHost;
+    let Ended { outcome, count } = instance.run(checked, &mut host)?;
     let mut text = Vec::new(alloc);
     print_line(
         &mut text,

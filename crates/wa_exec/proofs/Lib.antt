@@ -1,8 +1,7 @@
-pub mod Reading
-pub mod FlatTyping
-pub mod Framing
-pub mod FewBound
-pub mod OneTaken
+pub mod Typing
+pub mod Entries
+pub mod Guarding
+pub mod Bodies
+pub mod Ready
+pub mod Making
 pub mod OneEnding
-pub mod Acting
-pub mod Going

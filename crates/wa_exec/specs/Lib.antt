@@ -1,9 +1,2 @@
-pub mod Typing
-pub mod Machine
-pub mod Bound
-pub mod Bytes
-pub mod Few
-pub mod Room
-pub mod Closed
-pub mod Taken
-pub mod Turns
+pub mod Runs
+pub mod Made

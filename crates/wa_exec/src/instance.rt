@@ -1,138 +1,98 @@
-ghost use Rattle.std.specs.Prelude.{◌≡◌, ◌+◌, ◌∷◌, ◌≤◌, ◌<◌, [], List, Some, IfOk, MatchOption, IsSome, length};
-ghost use Rattle.wa_ops.specs.Sequences.{Sequence, Reads};
-ghost use Rattle.wa_exec.specs.Bound.{bound};
-ghost use Rattle.wa_exec.specs.Few.{IsFew};
-ghost use Rattle.wa_exec.specs.Machine.{Ends, Region, Configuration, Value, act, onward, ended};
-ghost use Rattle.wa_exec.specs.Room.{Ready};
-ghost use Rattle.wa_exec.specs.Taken.{IsBody, hook_context, hook_start};
-ghost use Rattle.wa_exec.specs.Turns.{Typed, GoesOn, Stops};
+//! A run of an export of a hook that was checked.
+ghost use Rattle.hk_bound.specs.Bounds.{export_bound};
+ghost use Rattle.hk_bound.specs.declared.fault.Export.{Export};
+ghost use Rattle.std.specs.Prelude.{ℕ, ◌≡◌, ◌≤◌, IfOk, IsErr, IsTrue, Some};
+ghost use Rattle.wa_exec.specs.Made.{IsMade, is_there};
+ghost use Rattle.wa_exec.specs.Runs.{IsRun, RunsWithin, named};
+ghost use Rattle.wa_run.specs.Calls.{meaning_of};
 
-use crate::operands::Operands;
-use crate::program::{Checked, Export};
-use hk_base::{Items, NoMemory, Outcome};
+use crate::laws::runs_within;
+use crate::starting::{all_fit, bound_of, count_of, function_of, pages_of};
+use hk_bound::{Checked, Export};
 use std::alloc::Global;
 use std::marker::Model;
-use wa_ops::{Op, one_tree};
-
-/// How a run ended, and how many turns it took.
-#[derive(Debug, Drop)]
-pub struct Ended {
-    pub outcome: Outcome,
-    pub count: u64,
-}
+use wa_num::Host;
+use wa_ops::{NoMemory, matching_ends};
+use wa_run::{Ended, Instance as Run};
 
 /// A run that hasn't begun, with all the memory that it takes.
 #[derive(Debug, Drop)]
 pub struct Instance {
-    alloc: Global,
-    argument: u32,
-    operands: Operands,
+    run: Run,
+    function: u32,
+    /// The ends of the regions of the function's code.
+    ends: Vec<u32>,
 }
 
 impl Model for Instance {
-    ghost use Rattle.std.specs.Prelude.{◌≡◌, []};
-    ghost use Rattle.wa_exec.specs.Room.{Words, Ready};
+    ghost use Rattle.wa_exec.specs.Made.{Made};
 
-    ghost Value = { Ready };
+    ghost Value = { Made };
 
-    ghost view = { λ i. record { argument = i.argument; room = i.operands.room } };
-
-    ghost invariant = { λ i. i.operands.items ≡ [] };
+    ghost view = { λ i. record { function = i.function; ends = i.ends.items; ready = i.run } };
 }
 
 impl Instance {
-    /// Takes all memory of a run of `export` with this argument.
+    /// Takes all memory of a run of this export with this argument.
+    ///
+    /// # Errors
+    ///
+    /// `NoMemory` where memory ran out.
     pub fn new(
         alloc: Global,
         checked: &Checked,
-        export: Export,
+        which: Export,
         argument: u32,
     ) -> Result<Instance, NoMemory>
-        requires hook { export ≡ Export.Hook }
-        ensures argument { IfOk result (λ instance. instance.argument ≡ argument) }
-        ensures room { IfOk result (λ instance. length checked.now ≤ instance.room) }
+        requires there { IsTrue (is_there which checked.now) }
+        ensures made { IfOk result (IsMade checked.now which argument) }
     {
-        let operands = Operands::with_room(alloc, checked.ops().len())?;
-        Ok(Instance {
+        let module = checked.module();
+        let function = function_of(checked, which);
+        let bound = bound_of(checked, which);
+        let code = &module.codes.as_slice()[function as usize];
+        let globals = module.globals.as_slice();
+        all_fit(globals);
+        let ends = matching_ends(alloc, code.ops.as_slice())?;
+        let run = Run::new(
             alloc,
             argument,
-            operands,
+            count_of(code.locals.as_slice()),
+            globals,
+            pages_of(module.memories.as_slice()),
+            module.segments.as_slice(),
+            bound as u32,
+        )?;
+        Ok(Instance {
+            run,
+            function,
+            ends,
         })
     }
 
-    /// Runs `hook` to its end. It takes no memory.
-    pub fn run(self, checked: &Checked) -> Ended
-        requires room { length checked.now ≤ self.room }
-        ensures ends { (tree : Sequence) → Reads checked.now tree → Ends hook_context result.count (hook_start self.argument tree) result.outcome }
-        ensures within { (tree : Sequence) → Reads checked.now tree → result.count ≤ bound tree }
+    /// Runs the function to its end. It takes no memory of its own.
+    ///
+    /// # Errors
+    ///
+    /// `NoMemory`, only from a host whose calls can want memory.
+    pub fn run<H: Host>(self, checked: &Checked, host: &mut H) -> Result<Ended, NoMemory>
+        requires made { (which : Export) × (argument : ℕ) × IsMade checked.now which argument self }
+        ensures ends { IfOk result (λ ended. (which : Export) (argument : ℕ) → IsMade checked.now which argument self →
+            IsRun (meaning_of H.answer H.memory_after H.state_after) checked.now.wasm (named which) argument host.old ended.outcome ended.count host.new) }
+        ensures count { IfOk result (λ ended. (which : Export) (argument n : ℕ) → IsMade checked.now which argument self →
+            export_bound (named which) checked.now.wasm ≡ Some n → ended.count ≤ n) }
+        ensures within { (which : Export) → RunsWithin H checked.now.wasm (named which) }
+        ensures told { H.may_want host.new ≡ H.may_want host.old }
+        ensures wants { IsErr result → IsTrue (H.may_want host.old) }
     {
-        one_tree();
+        runs_within::<H>();
         let Instance {
-            alloc,
-            mut operands,
-            ..
+            run,
+            function,
+            ends,
         } = self;
-        for (index, op) in checked.ops().iter().enumerate() {
-            let count = index as u64 + 1;
-            if let Op::End = op {
-                let code = operands.pop().cast_signed();
-                return Ended {
-                    outcome: Outcome::Returned { code },
-                    count,
-                };
-            }
-            if let Some(outcome) = turn(alloc, op, &mut operands) {
-                return Ended { outcome, count };
-            }
-        }
-        unreachable!()
+        let code = &checked.module().codes.as_slice()[function as usize];
+        let calls = checked.guards().imports.as_slice();
+        run.run(code.ops.as_slice(), ends.as_slice(), calls, host)
     }
-}
-
-/// One turn: the run goes on with these operands, or ends.
-fn turn(alloc: Global, op: &Op, operands: &mut Operands) -> Option<Outcome>
-    requires few { IsFew op.now }
-    requires typed { (values : List Value) × Typed op.now values operands.old.items }
-    requires room { length operands.old.items < operands.old.room }
-    ensures step { (values : List Value) → Typed op.now values operands.old.items → MatchOption result (GoesOn op.now values operands.new.items) (Stops op.now values) }
-    ensures room { operands.old.room ≤ operands.new.room }
-    ensures size { length operands.new.items ≤ length operands.old.items + 1 }
-{
-    match op {
-        Op::I32Const(number) => {
-            operands.push(u64::from(number.cast_unsigned()));
-            None
-        }
-        Op::I64Const(number) => {
-            operands.push(number.cast_unsigned());
-            None
-        }
-        Op::Drop => {
-            operands.pop();
-            None
-        }
-        Op::Call(_) => accept(alloc, operands),
-        _ => unreachable!(),
-    }
-}
-
-/// The call `accept(from, size, code)` over a memory of no bytes.
-fn accept(alloc: Global, operands: &mut Operands) -> Option<Outcome>
-    requires typed { (values : List Value) × Typed (Op.Call 0) values operands.old.items }
-    requires room { length operands.old.items ≤ operands.old.room }
-    ensures step { (values : List Value) → Typed (Op.Call 0) values operands.old.items → MatchOption result (GoesOn (Op.Call 0) values operands.new.items) (Stops (Op.Call 0) values) }
-    ensures room { operands.old.room ≤ operands.new.room }
-    ensures size { length operands.new.items ≤ length operands.old.items + 1 }
-{
-    let code = operands.pop();
-    let size = operands.pop();
-    let from = operands.pop();
-    if from == 0 && size == 0 {
-        return Some(Outcome::Accepted {
-            code: code.cast_signed(),
-            text: Items::new(alloc),
-        });
-    }
-    operands.push(u64::MAX);
-    None
 }

@@ -1,15 +1,13 @@
-//! The check of a hook's code, and the interpreter that runs it.
+//! The runs of a hook's exports.
 #![tactic(auto)]
 
-mod bytes;
 mod instance;
 mod laws;
-mod operands;
-mod program;
+mod starting;
 #[cfg(test)]
 mod tests;
-mod typing;
 
-pub use instance::{Ended, Instance};
-pub use laws::{one_ending, one_taken};
-pub use program::{CheckFault, Checked, Export, HEAD, check};
+pub use hk_bound::Export;
+pub use instance::Instance;
+pub use laws::{one_ending, runs_within};
+pub use wa_run::Ended;

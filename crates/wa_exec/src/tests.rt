@@ -1,116 +1,202 @@
-use crate::{CheckFault, Ended, Export, HEAD, Instance, check};
-use hk_base::Outcome;
-use std::alloc::{AllocError, Global};
-use std::process::Abort;
+use super::*;
+use hk_bound::check;
+use std::alloc::Global;
+use std::test::Fail;
+use wa_num::{Host, Memory};
+use wa_ops::{CallNo, NoMemory};
 
-/// The code of the form that is taken, around these instructions.
-fn code_of(alloc: Global, instructions: &[u8]) -> Result<Vec<u8>, AllocError> {
-    let length = (instructions.len() % 256) as u8;
-    let mut code = Vec::from_slice(alloc, &HEAD)?;
-    code.extend_from_slice(&[0x0a, length.wrapping_add(3), 1, length.wrapping_add(1), 0])?;
-    code.extend_from_slice(instructions)?;
+/// A host that answers 0 and changes nothing.
+#[derive(Drop)]
+struct NoHost;
+
+impl Host for NoHost {
+    ghost use Rattle.std.specs.Prelude.{false, pos, refl};
+
+    ghost answer = { λ _ _ _ _. pos 0 };
+
+    ghost memory_after = { λ _ _ _ memory. memory };
+
+    ghost state_after = { λ host _ _ _. host };
+
+    ghost may_want = { λ _. false };
+
+    ghost keeps_length = { λ _ _ _ _. refl };
+
+    fn call(
+        &mut self,
+        _number: CallNo,
+        _arguments: &[u64],
+        _memory: &mut Memory,
+    ) -> Result<i64, NoMemory> {
+        Ok(0)
+    }
+}
+
+/// The header, the types of `hook`, `_g` and `accept`, and the imports `_g`, `accept` and `rollback`.
+const FRAME: [u8; 69] = [
+    0x00, 0x61, 0x73, 0x6D, 0x01, 0x00, 0x00, 0x00, 0x01, 0x13, 0x03, 0x60, 0x01, 0x7F, 0x01, 0x7E,
+    0x60, 0x02, 0x7F, 0x7F, 0x01, 0x7F, 0x60, 0x03, 0x7F, 0x7F, 0x7E, 0x01, 0x7E, 0x02, 0x26, 0x03,
+    0x03, 0x65, 0x6E, 0x76, 0x02, 0x5F, 0x67, 0x00, 0x01, 0x03, 0x65, 0x6E, 0x76, 0x06, 0x61, 0x63,
+    0x63, 0x65, 0x70, 0x74, 0x00, 0x02, 0x03, 0x65, 0x6E, 0x76, 0x08, 0x72, 0x6F, 0x6C, 0x6C, 0x62,
+    0x61, 0x63, 0x6B, 0x00, 0x02,
+];
+
+/// One function, a memory of one page, and the exports `memory` and `hook`.
+const ONE: [u8; 28] = [
+    0x03, 0x02, 0x01, 0x00, 0x05, 0x03, 0x01, 0x00, 0x01, 0x07, 0x11, 0x02, 0x06, 0x6D, 0x65, 0x6D,
+    0x6F, 0x72, 0x79, 0x02, 0x00, 0x04, 0x68, 0x6F, 0x6F, 0x6B, 0x00, 0x03,
+];
+
+/// Two functions, a global of 9, the exports `hook` and `cbak`, and two segments, of which the later writes 50 at place 2.
+/// `hook` gives 1. `cbak` has a local, and gives the sum of the global, the byte at place 2, the local and the argument.
+const TWO: [u8; 81] = [
+    0x03, 0x03, 0x02, 0x00, 0x00, 0x05, 0x03, 0x01, 0x00, 0x01, 0x06, 0x06, 0x01, 0x7E, 0x00, 0x42,
+    0x09, 0x0B, 0x07, 0x0F, 0x02, 0x04, 0x68, 0x6F, 0x6F, 0x6B, 0x00, 0x03, 0x04, 0x63, 0x62, 0x61,
+    0x6B, 0x00, 0x04, 0x0A, 0x1A, 0x02, 0x04, 0x00, 0x42, 0x01, 0x0B, 0x13, 0x01, 0x01, 0x7E, 0x23,
+    0x00, 0x41, 0x02, 0x31, 0x00, 0x00, 0x7C, 0x20, 0x01, 0x7C, 0x20, 0x00, 0xAD, 0x7C, 0x0B, 0x0B,
+    0x10, 0x02, 0x00, 0x41, 0x00, 0x0B, 0x04, 0x01, 0x02, 0x03, 0x04, 0x00, 0x41, 0x02, 0x0B, 0x01,
+    0x32,
+];
+
+/// A hook of one function with this body and no locals.
+fn code_of(alloc: Global, body: &[u8]) -> Result<Vec<u8>, NoMemory> {
+    let size = (body.len() % 100) as u8;
+    let mut code = Vec::from_slice(alloc, &FRAME)?;
+    code.extend_from_slice(&ONE)?;
+    code.extend_from_slice(&[0x0A, size + 3, 0x01, size + 1, 0x00])?;
+    code.extend_from_slice(body)?;
     Ok(code)
 }
 
-/// Whether the run of these instructions is accepted, its code, its count and its bound; none for code that isn't taken.
-fn run(rt: &impl Abort, alloc: Global, instructions: &[u8]) -> Option<(bool, i64, u64, u64)> {
-    let code = code_of(alloc, instructions).expect(rt, "memory for the code");
-    let checked = match check(alloc, &code) {
+/// The outcome, the count and the bound of an export's run; nothing where it isn't there.
+fn shown(alloc: Global, code: &[u8], which: Export, argument: u32) -> Result<String, NoMemory> {
+    let checked = match check(alloc, code) {
         Ok(checked) => checked,
-        Err(CheckFault::NotYet) => return None,
-        Err(CheckFault::NoMemory) => panic!(rt; "memory for the check"),
+        Err(found) => return format!(in alloc; "{found:?}"),
     };
-    let instance = Instance::new(alloc, &checked, Export::Hook, 0).expect(rt, "memory for the run");
-    let Ended { outcome, count } = instance.run(&checked);
-    let bound = checked.bound_hook();
-    match outcome {
-        Outcome::Accepted { code, text } => {
-            assert_eq!(rt; text.len(), 0);
-            Some((true, code, count, bound))
-        }
-        Outcome::Returned { code } => Some((false, code, count, bound)),
-        _ => panic!(rt; "another outcome"),
+    let bound = match which {
+        Export::Hook => checked.bound_hook(),
+        Export::Cbak => match checked.bound_cbak() {
+            Some(bound) => bound,
+            None => return Ok(String::new(alloc)),
+        },
+    };
+    let instance = Instance::new(alloc, &checked, which, argument)?;
+    let Ended { outcome, count } = instance.run(&checked, &mut NoHost)?;
+    format!(in alloc; "{outcome:?} {count} of {bound}")
+}
+
+#[test]
+fn worked_rows(rt: HostRuntime) -> Result<(), Fail> {
+    let rows: [(&[u8], &str); 14] = [
+        (
+            &[0x41, 0x00, 0x41, 0x00, 0x42, 0x00, 0x10, 0x01, 0x0B],
+            "Accepted { code: 0, text: Items { items: [] } } 4 of 5",
+        ),
+        (
+            &[
+                0x41, 0x80, 0x80, 0x04, 0x41, 0x01, 0x42, 0x00, 0x10, 0x01, 0x0B,
+            ],
+            "Returned { code: -1 } 5 of 5",
+        ),
+        (
+            &[0x41, 0x00, 0x41, 0x00, 0x42, 0x07, 0x10, 0x02, 0x0B],
+            "RolledBack { code: 7, text: Items { items: [] } } 4 of 5",
+        ),
+        (
+            &[
+                0x03, 0x40, 0x41, 0x01, 0x41, 0x04, 0x10, 0x00, 0x1A, 0x0C, 0x00, 0x0B, 0x42, 0x00,
+                0x0B,
+            ],
+            "GuardViolated { id: 1, limit: 4 } 24 of 30",
+        ),
+        (
+            &[
+                0x03, 0x40, 0x41, 0x01, 0x41, 0x00, 0x10, 0x00, 0x1A, 0x0C, 0x00, 0x0B, 0x42, 0x00,
+                0x0B,
+            ],
+            "GuardViolated { id: 1, limit: 0 } 4 of 6",
+        ),
+        (
+            &[
+                0x03, 0x40, 0x41, 0x01, 0x41, 0x05, 0x10, 0x00, 0x1A, 0x0B, 0x03, 0x40, 0x41, 0x01,
+                0x41, 0x09, 0x10, 0x00, 0x1A, 0x0C, 0x00, 0x0B, 0x42, 0x00, 0x0B,
+            ],
+            "GuardViolated { id: 1, limit: 9 } 50 of 86",
+        ),
+        (
+            &[
+                0x03, 0x40, 0x41, 0x01, 0x41, 0x03, 0x10, 0x00, 0x1A, 0x03, 0x40, 0x41, 0x02, 0x41,
+                0x02, 0x10, 0x00, 0x1A, 0x0B, 0x0C, 0x00, 0x0B, 0x42, 0x00, 0x0B,
+            ],
+            "GuardViolated { id: 2, limit: 2 } 31 of 37",
+        ),
+        (
+            &[
+                0x41, 0x01, 0x41, 0x02, 0x10, 0x00, 0x1A, 0x03, 0x40, 0x41, 0x01, 0x41, 0x02, 0x10,
+                0x00, 0x1A, 0x0C, 0x00, 0x0B, 0x42, 0x00, 0x0B,
+            ],
+            "GuardViolated { id: 1, limit: 2 } 13 of 22",
+        ),
+        (
+            &[
+                0x41, 0x01, 0x41, 0x02, 0x10, 0x00, 0x1A, 0x03, 0x40, 0x41, 0x01, 0x41, 0x00, 0x10,
+                0x00, 0x1A, 0x0C, 0x00, 0x0B, 0x42, 0x00, 0x0B,
+            ],
+            "GuardViolated { id: 1, limit: 0 } 8 of 10",
+        ),
+        (
+            &[
+                0x41, 0x80, 0x80, 0x80, 0x80, 0x78, 0x41, 0x7F, 0x6D, 0x1A, 0x42, 0x00, 0x0B,
+            ],
+            "Trapped(DivideOverflow) 3 of 6",
+        ),
+        (
+            &[
+                0x41, 0x80, 0x80, 0x80, 0x80, 0x78, 0x41, 0x7F, 0x6F, 0xAC, 0x0B,
+            ],
+            "Returned { code: 0 } 5 of 5",
+        ),
+        (
+            &[
+                0x41, 0xFD, 0xFF, 0x03, 0x28, 0x00, 0x00, 0x1A, 0x42, 0x00, 0x0B,
+            ],
+            "Trapped(Memory) 2 of 5",
+        ),
+        (
+            &[
+                0x41, 0xFC, 0xFF, 0x03, 0x28, 0x00, 0x00, 0x1A, 0x42, 0x00, 0x0B,
+            ],
+            "Returned { code: 0 } 5 of 5",
+        ),
+        (
+            &[0x20, 0x00, 0xAD, 0x0B],
+            "Returned { code: 4294967295 } 3 of 3",
+        ),
+    ];
+    for (body, row) in rows {
+        let code = code_of(rt.alloc(), body)?;
+        assert_eq!(rt;
+            shown(rt.alloc(), &code, Export::Hook, 0xFFFF_FFFF)?.as_str(),
+            row
+        );
     }
+    Ok(())
 }
 
 #[test]
-fn worked_rows(rt: HostRuntime) {
-    let alloc = rt.alloc();
+fn both_exports(rt: HostRuntime) -> Result<(), Fail> {
+    let mut code = Vec::from_slice(rt.alloc(), &FRAME)?;
+    code.extend_from_slice(&TWO)?;
     assert_eq!(rt;
-        run(&rt, alloc, &[0x41, 0, 0x41, 0, 0x42, 0, 0x10, 0, 0x0b]),
-        Some((true, 0, 4, 5))
+        shown(rt.alloc(), &code, Export::Hook, 0)?.as_str(),
+        "Returned { code: 1 } 2 of 2"
     );
     assert_eq!(rt;
-        run(&rt, alloc, &[0x41, 1, 0x41, 0, 0x42, 0, 0x10, 0, 0x0b]),
-        Some((false, -1, 5, 5))
+        shown(rt.alloc(), &code, Export::Cbak, 1000)?.as_str(),
+        "Returned { code: 1059 } 10 of 10"
     );
-    assert_eq!(rt; run(&rt, alloc, &[0x41, 0, 0x0b]), None);
-}
-
-#[test]
-fn constants_and_calls(rt: HostRuntime) {
-    let alloc = rt.alloc();
-    // -64 and 63 are the least and the greatest number of one byte.
-    assert_eq!(rt;
-        run(&rt, alloc, &[0x42, 0x40, 0x0b]),
-        Some((false, -64, 2, 2))
-    );
-    assert_eq!(rt;
-        run(&rt, alloc, &[0x42, 0x3f, 0x0b]),
-        Some((false, 63, 2, 2))
-    );
-    assert_eq!(rt;
-        run(&rt, alloc, &[0x41, 0x7f, 0x1a, 0x42, 0x7f, 0x0b]),
-        Some((false, -1, 4, 4))
-    );
-    assert_eq!(rt;
-        run(&rt, alloc, &[0x41, 0, 0x41, 0, 0x42, 0x7f, 0x10, 0, 0x0b]),
-        Some((true, -1, 4, 5))
-    );
-    // A size of -1 is 4,294,967,295 bytes.
-    assert_eq!(rt;
-        run(&rt, alloc, &[0x41, 0, 0x41, 0x7f, 0x42, 0, 0x10, 0, 0x0b]),
-        Some((false, -1, 5, 5))
-    );
-}
-
-#[test]
-fn what_is_not_taken(rt: HostRuntime) {
-    let alloc = rt.alloc();
-    assert_eq!(rt; run(&rt, alloc, &[]), None);
-    assert_eq!(rt; run(&rt, alloc, &[0x0b]), None);
-    assert_eq!(rt; run(&rt, alloc, &[0x1a, 0x42, 0, 0x0b]), None);
-    assert_eq!(rt; run(&rt, alloc, &[0x42, 0, 0x42, 0, 0x0b]), None);
-    assert_eq!(rt; run(&rt, alloc, &[0x42, 0, 0x0b, 0x0b]), None);
-    assert_eq!(rt; run(&rt, alloc, &[0x42, 0x80, 0x0b]), None);
-    assert_eq!(rt; run(&rt, alloc, &[0x42, 0]), None);
-    assert_eq!(rt;
-        run(&rt, alloc, &[0x41, 0, 0x42, 0, 0x41, 0, 0x10, 0, 0x0b]),
-        None
-    );
-    assert_eq!(rt;
-        run(&rt, alloc, &[0x41, 0, 0x41, 0, 0x42, 0, 0x10, 1, 0x0b]),
-        None
-    );
-    assert_eq!(rt; run(&rt, alloc, &[0x01, 0x42, 0, 0x0b]), None);
-}
-
-/// `i64.const 0` so often, with as many `drop` but one, and the `end`.
-fn balanced(alloc: Global, pairs: u32) -> Result<Vec<u8>, AllocError> {
-    let mut instructions = Vec::new(alloc);
-    for _ in 0..pairs {
-        instructions.extend_from_slice(&[0x42, 0, 0x1a])?;
-    }
-    instructions.extend_from_slice(&[0x42, 5, 0x0b])?;
-    Ok(instructions)
-}
-
-#[test]
-fn longest_code(rt: HostRuntime) {
-    let alloc = rt.alloc();
-    let taken = balanced(alloc, 40).expect(&rt, "memory");
-    assert_eq!(rt; taken.len(), 123);
-    assert_eq!(rt; run(&rt, alloc, &taken), Some((false, 5, 82, 82)));
-    let longer = balanced(alloc, 41).expect(&rt, "memory");
-    assert_eq!(rt; run(&rt, alloc, &longer), None);
+    let alone = code_of(rt.alloc(), &[0x42, 0x00, 0x0B])?;
+    assert_eq!(rt; shown(rt.alloc(), &alone, Export::Cbak, 0)?.as_str(), "");
+    Ok(())
 }

@@ -4,17 +4,17 @@ use Rattle.hk_replay.proofs.Giving.{exact_answer}
 use Rattle.hk_replay.proofs.Stopping.{tells_usage, usage_stops}
 use Rattle.hk_replay.proofs.program.top.Goals as goal
 
-pub returns-in-Run-clause-exact : goal.returns-in-Run-clause-exact
-returns-in-Run-clause-exact g c = λ no_read no_write bytes text status told given.
-    exact_answer _ bytes text c.run.result status _ _
-    (λ answer. c.run.ensures.answered answer bytes told)
-    (λ fault. no_read (c.run.ensures.read_fault fault))
-    (λ fault. no_write (c.run.ensures.write_fault fault))
-    (subst (λ command. GivesFor command bytes text status) (sym c.in-Run.ensures.names) given)
+pub returns-in-Hook-clause-exact : goal.returns-in-Hook-clause-exact
+returns-in-Hook-clause-exact g c = λ no_read no_write bytes text status told given.
+    exact_answer c.one_ending.ensures.law _ bytes text c.answer_hook.result status _ _
+    (λ answer. c.answer_hook.ensures.answered answer bytes told)
+    (λ fault. no_read (c.answer_hook.ensures.read_fault fault))
+    (λ fault. no_write (c.answer_hook.ensures.write_fault fault))
+    (subst (λ command. GivesFor command bytes text status) (sym c.in-Hook.ensures.names) given)
 
 pub returns-in-Replay-clause-exact : goal.returns-in-Replay-clause-exact
 returns-in-Replay-clause-exact g c = λ no_read no_write bytes text status told given.
-    exact_answer _ bytes text c.replay.result status _ _
+    exact_answer c.one_ending.ensures.law _ bytes text c.replay.result status _ _
     (λ answer. c.replay.ensures.answered answer bytes told)
     (λ fault. no_read (c.replay.ensures.read_fault fault))
     (λ fault. no_write (c.replay.ensures.write_fault fault))

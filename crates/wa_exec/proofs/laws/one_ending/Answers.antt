@@ -2,4 +2,4 @@ use Rattle.wa_exec.proofs.OneEnding.{one_ending}
 use Rattle.wa_exec.proofs.laws.one_ending.Goals as goal
 
 pub returns : goal.returns
-returns c = record { law = one_ending }
+returns g c = record { law = one_ending _ }

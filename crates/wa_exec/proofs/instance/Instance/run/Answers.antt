@@ -1,60 +1,51 @@
-use Rattle.std.proofs.Common.{◌≡◌, ◌+◌, ◌∙◌, ◌∷◌, [], length, rules, arith, ap, sym, subst}
-use Rattle.std.specs.Int.{cast_signed, w64}
-use Rattle.std.proofs.lemmas.Int.{to_z-of_z}
-use Rattle.hk_base.specs.declared.outcome.Outcome.TheVariants.{Returned}
-use Rattle.wa_ops.specs.Sequences.{Reads}
-use Rattle.wa_exec.specs.Machine.{Ends}
-use Rattle.wa_exec.specs.Taken.{hook_context, hook_start, IsChecked}
-use Rattle.wa_exec.proofs.Going.{Running, Turned, Returns, starts, turned, returned, never_past, within_bound}
+use Rattle.std.proofs.Common.{◌∙◌, ap}
+use Rattle.std.proofs.lemmas.Result.{IfOk-weaker}
+use Rattle.hk_rules.specs.declared.guards.Guards.{Guards}
+use Rattle.wa_exec.proofs.Making.{given, can_given, run_given, count_given}
+use Rattle.wa_exec.proofs.Ready.{running, made_body}
+use Rattle.wa_exec.specs.Made.{Made}
+use Rattle.wa_run.specs.Calls.{meaning_of}
 use Rattle.wa_exec.proofs.instance.Instance.run.Goals as goal
 
-pub loop-index-init : goal.loop-index-init
-loop-index-init c = record {
-  running = subst (Running c.ops-op-items.result.now c.args.self.argument 0) (sym c.self.invariant)
-      (starts c.ops-op-items.result.now c.args.self.argument c.one_tree.ensures.law (subst IsChecked (sym c.ops-op-items.ensures.ops) c.ops-op-items.ensures.checked));
-  size = omega (arith, ap length c.self.invariant);
-  room = omega (arith, c.requires.room, ap length c.ops-op-items.ensures.ops, ap (λ r. r.room) c.self.view_is);
-}
-
-pub pop-requires : goal.pop-requires
-pop-requires c =
-    let r : Returns c.ops-op-items.result.now c.args.self.argument c.loop-index.index c.loop-index.operands.items =
-    returned _ _ _ _ _ c.loop-index.invariant.running c.loop-index-test.true c.op-item.is c.in-End.is in
-    record { some = omega (arith, ap length r.one) }
-
-pub returns-in-End-clause-ends : goal.returns-in-End-clause-ends
-returns-in-End-clause-ends c = λ tree k.
-    let r : Returns c.ops-op-items.result.now c.args.self.argument c.loop-index.index c.loop-index.operands.items =
-    returned _ _ _ _ _ c.loop-index.invariant.running c.loop-index-test.true c.op-item.is c.in-End.is in
-    let words : (c.pop.result ∷ c.pop.new.self.items) ≡ (r.word ∷ []) = sym c.pop.ensures.items ∙ r.one in
-    let word : r.word ≡ c.pop.result = cc in
-    subst (λ code. Ends hook_context (c.loop-index.index + 1) (hook_start c.args.self.argument tree) (Returned code))
-    (ap (cast_signed w64) word ∙ sym c.cast_signed-code.ensures ∙ sym (to_z-of_z w64 c.cast_signed-code.result (search rules)))
-    (r.ends tree (subst (λ os. Reads os tree) (sym c.ops-op-items.ensures.ops) k))
-
-pub returns-in-End-clause-within : goal.returns-in-End-clause-within
-returns-in-End-clause-within c = within_bound _ _ c.loop-index.index (sym c.ops-op-items.ensures.ops) c.ops-op-items.ensures.checked c.loop-index-test.true
-
-pub turn-requires : goal.turn-requires
-turn-requires c =
-    let t : Turned c.ops-op-items.result.now c.args.self.argument c.loop-index.index c.op-item.result c.loop-index.operands.items =
-    turned _ _ _ _ _ c.loop-index.invariant.running c.loop-index-test.true c.op-item.is c.in_default.not-End in
-    record { few = t.few; typed = (t.values, t.typed); room = omega arith }
-
-pub returns-in-Some : goal.returns-in-Some
-returns-in-Some c =
-    let t : Turned c.ops-op-items.result.now c.args.self.argument c.loop-index.index c.op-item.result c.loop-index.operands.items =
-    turned _ _ _ _ _ c.loop-index.invariant.running c.loop-index-test.true c.op-item.is c.in_default.not-End in
+pub run-requires : goal.run-requires
+run-requires g c =
+    let i = c.requires.made.2 in
     record {
-      ends = λ tree r. t.stops _ (c.in-Some.ensures.step t.values t.typed) tree (subst (λ os. Reads os tree) (sym c.ops-op-items.ensures.ops) r);
-      within = within_bound _ _ c.loop-index.index (sym c.ops-op-items.ensures.ops) c.ops-op-items.ensures.checked c.loop-index-test.true;
+      can = (
+        running c.args.checked.now.wasm c.args.self.function (made_body c.args.checked.now c.requires.made.0 c.requires.made.1 c.args.self c.module.ensures.held i).tree c.requires.made.1,
+        can_given c.args.checked.now c.requires.made.0 c.requires.made.1 c.args.self c.index-as_slice-function.result c.as_slice-2.result.now c.as_slice-3.result.now c.as_slice-calls.result.now c.self.inside.run c.module.ensures.held i
+            (given c.args.checked.now c.requires.made.0 c.requires.made.1 c.args.self c.module.result.now c.as_slice.result.now c.index-as_slice-function.result c.as_slice-2.result.now c.as_slice-3.result.now c.as_slice-calls.result.now c.self.inside.run c.self.inside.function c.module.ensures.held i
+            c.module.ensures.is c.as_slice.ensures.items c.index-as_slice-function.is c.as_slice-2.ensures.items
+            (c.as_slice-3.ensures.value ∙ ap (λ (m : Made). m.ends) c.self.view_is)
+            (c.as_slice-calls.ensures.items ∙ ap (λ (gs : Guards). gs.imports) c.guards.ensures.guards)
+            (ap (λ (m : Made). m.ready) c.self.view_is) (ap (λ (m : Made). m.function) c.self.view_is)),
+      );
     }
 
-pub loop-index-preserved : goal.loop-index-preserved
-loop-index-preserved c =
-    let t : Turned c.ops-op-items.result.now c.args.self.argument c.loop-index.index c.op-item.result c.loop-index.operands.items =
-    turned _ _ _ _ _ c.loop-index.invariant.running c.loop-index-test.true c.op-item.is c.in_default.not-End in
-    record { running = t.goes _ (c.in_default-turn.ensures.step t.values t.typed); size = omega (arith, c.turn.ensures.size); room = omega (arith, c.turn.ensures.room) }
+pub returns-clause-ends : goal.returns-clause-ends
+returns-clause-ends g c =
+    IfOk-weaker c.run.result _ _
+    (λ ended e. λ which argument i.
+    run_given c.args.checked.now which argument c.args.self c.index-as_slice-function.result c.as_slice-2.result.now c.as_slice-3.result.now c.as_slice-calls.result.now c.self.inside.run
+    (meaning_of g.H.Host.answer g.H.Host.memory_after g.H.Host.state_after) c.args.host.now ended.count ended.outcome c.run.new.host c.module.ensures.held i
+    (given c.args.checked.now which argument c.args.self c.module.result.now c.as_slice.result.now c.index-as_slice-function.result c.as_slice-2.result.now c.as_slice-3.result.now c.as_slice-calls.result.now c.self.inside.run c.self.inside.function c.module.ensures.held i
+    c.module.ensures.is c.as_slice.ensures.items c.index-as_slice-function.is c.as_slice-2.ensures.items
+    (c.as_slice-3.ensures.value ∙ ap (λ (m : Made). m.ends) c.self.view_is)
+    (c.as_slice-calls.ensures.items ∙ ap (λ (gs : Guards). gs.imports) c.guards.ensures.guards)
+    (ap (λ (m : Made). m.ready) c.self.view_is) (ap (λ (m : Made). m.function) c.self.view_is))
+    e)
+    c.run.ensures.ends
 
-pub unreachable-requires : goal.unreachable-requires
-unreachable-requires c = never_past _ _ _ _ c.loop-index.invariant.running c.loop-index-test.false
+pub returns-clause-count : goal.returns-clause-count
+returns-clause-count g c =
+    IfOk-weaker c.run.result _ _
+    (λ ended e. λ which argument n i f.
+    count_given c.args.checked.now which argument c.args.self c.index-as_slice-function.result c.as_slice-2.result.now c.as_slice-3.result.now c.as_slice-calls.result.now c.self.inside.run
+    (meaning_of g.H.Host.answer g.H.Host.memory_after g.H.Host.state_after) c.args.host.now ended.count n ended.outcome c.run.new.host c.module.ensures.held i
+    (given c.args.checked.now which argument c.args.self c.module.result.now c.as_slice.result.now c.index-as_slice-function.result c.as_slice-2.result.now c.as_slice-3.result.now c.as_slice-calls.result.now c.self.inside.run c.self.inside.function c.module.ensures.held i
+    c.module.ensures.is c.as_slice.ensures.items c.index-as_slice-function.is c.as_slice-2.ensures.items
+    (c.as_slice-3.ensures.value ∙ ap (λ (m : Made). m.ends) c.self.view_is)
+    (c.as_slice-calls.ensures.items ∙ ap (λ (gs : Guards). gs.imports) c.guards.ensures.guards)
+    (ap (λ (m : Made). m.ready) c.self.view_is) (ap (λ (m : Made). m.function) c.self.view_is))
+    e f)
+    c.run.ensures.ends

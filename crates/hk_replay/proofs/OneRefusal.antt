@@ -1,0 +1,202 @@
+-- A code is refused in one way, and not where it is accepted.
+use Rattle.std.proofs.Common.{◌≡◌, ◌≢◌, ℕ, ◌+◌, ◌<◌, ◌≤◌, ◌⊎◌, inl, inr, Bool, true, false, List, [], ◌∷◌, length, Option, Some, None, ap, sym, subst, ◌∙◌, refl, arith, if◌then◌else◌}
+use Rattle.std.proofs.lemmas.Bool.Decides.{leb_tells}
+use Rattle.wa_decode.proofs.ModuleReaders.{one_module}
+use Rattle.wa_decode.specs.Modules.{Spells}
+use Rattle.wa_ops.specs.declared.modules.Module.{Module}
+use Rattle.wa_ops.specs.declared.modules.ModuleExport.{ModuleExport}
+use Rattle.wa_ops.specs.declared.op.ValueType.{ValueType}
+use Rattle.wa_ops.specs.declared.rule_fault.RuleFault.{RuleFault}
+use Rattle.wa_ops.specs.Contexts.{context_of}
+use Rattle.wa_ops.specs.HookRules.{Rule, Precedes, IsLeast, IsFirst, AreKept, IsRuled, hook_rules, is_hook, is_cbak}
+use Rattle.wa_ops.specs.Sequences.{Sequence, size}
+use Rattle.wa_ops.specs.Typing.{Typing, leaves, fails, fresh, types, after_region, Leaves, IsTyped}
+use Rattle.wa_validate.specs.Untyped.{IsUntyped, IsTypedAt, body_of, body_typing}
+use Rattle.hk_bound.specs.Bounds.{export_bound}
+use Rattle.hk_bound.specs.Checks.{most, IsSpelled, AllTyped, IsWithin, IsPast, IsHook, Held, Holds, IsRefused}
+use Rattle.hk_bound.specs.declared.fault.CheckFault.{CheckFault}
+use Rattle.hk_bound.specs.declared.fault.CheckFault.TheVariants as fault
+use Rattle.hk_bound.specs.declared.fault.Export.TheVariants as «export»
+
+-- ---- the first rule that is broken
+
+clash : (b : Bool) → b ≡ false → b ≡ true → ⊥
+clash b f t = let e : true ≡ false = sym t ∙ f in absurd (cc)
+
+order : (a b : ℕ) → (a < b) ⊎ ((a ≡ b) ⊎ (b < a))
+order a b =
+    elim (leb_tells (a + 1) b) [
+      | inl h ↦ let k = h.1 in inl (omega (arith, k))
+      | inr h ↦ let k = h.1 in elim (leb_tells (b + 1) a) [
+        | inl i ↦ let j = i.1 in inr (inr (omega (arith, j)))
+        | inr i ↦ let j = i.1 in inr (inl (omega (arith, k, j)))
+      ]
+    ]
+
+least_at : (broken : ℕ → ℕ → Bool) (i at j place : ℕ) → IsLeast broken i at → IsLeast broken j place →
+    (i < j) ⊎ ((i ≡ j) ⊎ (j < i)) → (at < place) ⊎ ((at ≡ place) ⊎ (place < at)) → (i ≡ j) × (at ≡ place)
+least_at broken i at j place a b (inl lt) w = absurd (clash (broken i at) (b.before i at (inl lt)) a.here)
+least_at broken i at j place a b (inr (inr gt)) w = absurd (clash (broken j place) (a.before j place (inl gt)) b.here)
+least_at broken i at j place a b (inr (inl eq)) (inl lt) = absurd (clash (broken i at) (b.before i at (inr (eq, lt))) a.here)
+least_at broken i at j place a b (inr (inl eq)) (inr (inr gt)) = absurd (clash (broken j place) (a.before j place (inr (sym eq, gt))) b.here)
+least_at broken i at j place a b (inr (inl eq)) (inr (inl same)) = (eq, same)
+
+least_one : (broken : ℕ → ℕ → Bool) (i at j place : ℕ) → IsLeast broken i at → IsLeast broken j place → (i ≡ j) × (at ≡ place)
+least_one broken i at j place a b = least_at broken i at j place a b (order i j) (order at place)
+
+one_first : (rules : List Rule) (a b : RuleFault) → IsFirst rules a → IsFirst rules b → a ≡ b
+one_first [] a b x y = absurd x
+one_first (rule ∷ rules) a b (inl x) (inl y) =
+    let p = least_one rule.broken x.index x.place y.index y.place x.least y.least in
+    x.is ∙ ap (λ i. rule.fault i x.place) p.0 ∙ ap (λ at. rule.fault y.index at) p.1 ∙ sym y.is
+one_first (rule ∷ rules) a b (inl x) (inr y) = absurd (clash (rule.broken x.index x.place) (y.0 x.index x.place) x.least.here)
+one_first (rule ∷ rules) a b (inr x) (inl y) = absurd (clash (rule.broken y.index y.place) (x.0 y.index y.place) y.least.here)
+one_first (rule ∷ rules) a b (inr x) (inr y) = one_first rules a b x.1 y.1
+
+kept_or_first : (rules : List Rule) (found : RuleFault) → AreKept rules → IsFirst rules found → ⊥
+kept_or_first [] found kept x = x
+kept_or_first (rule ∷ rules) found kept (inl x) = clash (rule.broken x.index x.place) (kept.0 x.index x.place) x.least.here
+kept_or_first (rule ∷ rules) found kept (inr x) = kept_or_first rules found kept.1 x.1
+
+-- ---- the first failure of typing
+
+empty_or_not : (b : Bool) (place failure : ℕ) → b ≡ true → (if b then leaves fresh else fails place) ≡ fails failure → ⊥
+empty_or_not b place failure is e =
+    let same : leaves fresh ≡ fails failure = ap (λ t. if t then leaves fresh else fails place) (sym is) ∙ e in absurd (cc)
+
+typed_or_fails : (result : Option ValueType) (place : ℕ) (typing : Typing) (failure : ℕ) → Leaves result typing → after_region result place typing (leaves fresh) ≡ fails failure → ⊥
+typed_or_fails result place (leaves stack) failure is e = empty_or_not _ place failure is e
+typed_or_fails result place (fails other) failure is e = absurd is
+
+untyped_here : (m : Module) (function place : ℕ) → IsUntyped m function place → IsTypedAt m function → ⊥
+untyped_here m function place x typed =
+    typed_or_fails (context_of m function).result (size x.body)
+    (types (context_of m function) ((context_of m function).result ∷ []) x.body 0 fresh) place (typed x.body x.found) x.failed
+
+failure_of : ℕ → Typing → ℕ
+failure_of other (fails place) = place
+failure_of other (leaves stack) = other
+
+same_body : (m : Module) (f g : ℕ) (a b : Sequence) → f ≡ g → body_of m f ≡ Some a → body_of m g ≡ Some b → a ≡ b
+same_body m f g a b same x y = let e : Some a ≡ Some b = sym x ∙ ap (body_of m) same ∙ y in cc
+
+one_untyped : (m : Module) (f p g q : ℕ) → IsUntyped m f p → IsUntyped m g q → (f < g) ⊎ ((f ≡ g) ⊎ (g < f)) → (f ≡ g) × (p ≡ q)
+unfolding failure_of
+one_untyped m f p g q x y (inl lt) = absurd (untyped_here m f p x (y.first f lt))
+one_untyped m f p g q x y (inr (inr gt)) = absurd (untyped_here m g q y (x.first g gt))
+one_untyped m f p g q x y (inr (inl same)) = (
+  same,
+  ap (failure_of 0) (sym x.failed ∙ ap (λ function. body_typing (context_of m function) x.body) same
+      ∙ ap (body_typing (context_of m g)) (same_body m f g x.body y.body same x.found y.found) ∙ y.failed),
+)
+
+-- ---- bounds
+
+one_past : (is_named : ModuleExport → Bool) (m : Module) (n k : ℕ) → IsPast is_named m n → IsPast is_named m k → n ≡ k
+one_past is_named m n k x y = let e : Some n ≡ Some k = sym x.bound ∙ y.bound in cc
+
+past_or_within : (is_named : ModuleExport → Bool) (m : Module) (n : ℕ) → IsPast is_named m n → IsWithin is_named m → ⊥
+past_or_within is_named m n x within = let fits = within n x.bound in let large = x.large in omega (arith, fits, large)
+
+-- ---- accepted or refused
+
+module_at : (code : List ℕ) (a b : Module) → IsSpelled code a → IsSpelled code b → a ≡ b
+module_at code a b x y = one_module code a b x.spelled y.spelled
+
+accepted_or_refused : (code : List ℕ) (m : Module) (found : CheckFault) → IsHook code m → IsRefused code found → found ≢ fault.NoMemory → ⊥
+accepted_or_refused code m fault.TooLong x y apart = let short = x.spelled.short in omega (arith, short, y)
+accepted_or_refused code m fault.Malformed x y apart = y.1 m x.spelled.spelled
+accepted_or_refused code m (fault.Rule found) x y apart =
+    kept_or_first (hook_rules y.wasm) found (subst IsRuled (module_at code m y.wasm x.spelled y.spelled) x.ruled) y.first
+accepted_or_refused code m (fault.Untyped func op) x y apart =
+    untyped_here y.wasm func op y.untyped (subst AllTyped (module_at code m y.wasm x.spelled y.spelled) x.typed func)
+accepted_or_refused code m (fault.BoundTooLarge «export».Hook n) x y apart =
+    past_or_within is_hook y.wasm n y.past (subst (IsWithin is_hook) (module_at code m y.wasm x.spelled y.spelled) x.hook)
+accepted_or_refused code m (fault.BoundTooLarge «export».Cbak n) x y apart =
+    past_or_within is_cbak y.wasm n y.past (subst (IsWithin is_cbak) (module_at code m y.wasm x.spelled y.spelled) x.cbak)
+accepted_or_refused code m fault.NoMemory x y apart = apart refl
+
+pub holds_or_refused : (code : List ℕ) (held : Held) (found : CheckFault) → Holds code held → IsRefused code found → found ≢ fault.NoMemory → ⊥
+holds_or_refused code held found x y apart = accepted_or_refused code held.wasm found x.hook y apart
+
+-- ---- one refusal; the earlier of two excludes the later
+
+-- refusals that say what the code has: a module, rules, typing
+short_rule : (code : List ℕ) (found : CheckFault) → IsRefused code found → found ≢ fault.NoMemory → found ≢ fault.TooLong → length code ≤ most
+short_rule code fault.TooLong y apart other = absurd (other refl)
+short_rule code fault.Malformed y apart other = y.0
+short_rule code (fault.Rule found) y apart other = y.spelled.short
+short_rule code (fault.Untyped func op) y apart other = y.spelled.short
+short_rule code (fault.BoundTooLarge «export».Hook n) y apart other = y.spelled.short
+short_rule code (fault.BoundTooLarge «export».Cbak n) y apart other = y.spelled.short
+short_rule code fault.NoMemory y apart other = absurd (apart refl)
+
+too_long_first : (code : List ℕ) (found : CheckFault) → most < length code → IsRefused code found → found ≢ fault.NoMemory → found ≢ fault.TooLong → ⊥
+too_long_first code found long y apart other = let short = short_rule code found y apart other in omega (arith, long, short)
+
+one_refused : (code : List ℕ) (a b : CheckFault) → IsRefused code a → IsRefused code b → a ≢ fault.NoMemory → b ≢ fault.NoMemory → a ≡ b
+one_refused code fault.NoMemory b x y p q = absurd (p refl)
+one_refused code a fault.NoMemory x y p q = absurd (q refl)
+one_refused code fault.TooLong fault.TooLong x y p q = refl
+one_refused code fault.TooLong b x y p q = absurd (too_long_first code b x y q (λ e. cc))
+one_refused code a fault.TooLong x y p q = absurd (too_long_first code a y x p (λ e. cc))
+one_refused code fault.Malformed fault.Malformed x y p q = refl
+one_refused code fault.Malformed (fault.Rule found) x y p q = absurd (x.1 y.wasm y.spelled.spelled)
+one_refused code fault.Malformed (fault.Untyped func op) x y p q = absurd (x.1 y.wasm y.spelled.spelled)
+one_refused code fault.Malformed (fault.BoundTooLarge «export».Hook n) x y p q = absurd (x.1 y.wasm y.spelled.spelled)
+one_refused code fault.Malformed (fault.BoundTooLarge «export».Cbak n) x y p q = absurd (x.1 y.wasm y.spelled.spelled)
+one_refused code (fault.Rule found) fault.Malformed x y p q = absurd (y.1 x.wasm x.spelled.spelled)
+one_refused code (fault.Untyped func op) fault.Malformed x y p q = absurd (y.1 x.wasm x.spelled.spelled)
+one_refused code (fault.BoundTooLarge «export».Hook n) fault.Malformed x y p q = absurd (y.1 x.wasm x.spelled.spelled)
+one_refused code (fault.BoundTooLarge «export».Cbak n) fault.Malformed x y p q = absurd (y.1 x.wasm x.spelled.spelled)
+one_refused code (fault.Rule a) (fault.Rule b) x y p q =
+    ap (λ found. fault.Rule found) (one_first (hook_rules y.wasm) a b (subst (λ m. IsFirst (hook_rules m) a) (module_at code x.wasm y.wasm x.spelled y.spelled) x.first) y.first)
+one_refused code (fault.Rule a) (fault.Untyped func op) x y p q =
+    absurd (kept_or_first (hook_rules x.wasm) a (subst IsRuled (module_at code y.wasm x.wasm y.spelled x.spelled) y.ruled) x.first)
+one_refused code (fault.Rule a) (fault.BoundTooLarge «export».Hook n) x y p q =
+    absurd (kept_or_first (hook_rules x.wasm) a (subst IsRuled (module_at code y.wasm x.wasm y.spelled x.spelled) y.ruled) x.first)
+one_refused code (fault.Rule a) (fault.BoundTooLarge «export».Cbak n) x y p q =
+    absurd (kept_or_first (hook_rules x.wasm) a (subst IsRuled (module_at code y.wasm x.wasm y.spelled x.spelled) y.ruled) x.first)
+one_refused code (fault.Untyped func op) (fault.Rule b) x y p q =
+    absurd (kept_or_first (hook_rules y.wasm) b (subst IsRuled (module_at code x.wasm y.wasm x.spelled y.spelled) x.ruled) y.first)
+one_refused code (fault.BoundTooLarge «export».Hook n) (fault.Rule b) x y p q =
+    absurd (kept_or_first (hook_rules y.wasm) b (subst IsRuled (module_at code x.wasm y.wasm x.spelled y.spelled) x.ruled) y.first)
+one_refused code (fault.BoundTooLarge «export».Cbak n) (fault.Rule b) x y p q =
+    absurd (kept_or_first (hook_rules y.wasm) b (subst IsRuled (module_at code x.wasm y.wasm x.spelled y.spelled) x.ruled) y.first)
+one_refused code (fault.Untyped f i) (fault.Untyped g j) x y p q =
+    let same = one_untyped y.wasm f i g j (subst (λ m. IsUntyped m f i) (module_at code x.wasm y.wasm x.spelled y.spelled) x.untyped) y.untyped (order f g) in
+    ap (λ func. fault.Untyped func i) same.0 ∙ ap (λ op. fault.Untyped g op) same.1
+one_refused code (fault.Untyped f i) (fault.BoundTooLarge «export».Hook n) x y p q =
+    absurd (untyped_here x.wasm f i x.untyped (subst AllTyped (module_at code y.wasm x.wasm y.spelled x.spelled) y.typed f))
+one_refused code (fault.Untyped f i) (fault.BoundTooLarge «export».Cbak n) x y p q =
+    absurd (untyped_here x.wasm f i x.untyped (subst AllTyped (module_at code y.wasm x.wasm y.spelled x.spelled) y.typed f))
+one_refused code (fault.BoundTooLarge «export».Hook n) (fault.Untyped f i) x y p q =
+    absurd (untyped_here y.wasm f i y.untyped (subst AllTyped (module_at code x.wasm y.wasm x.spelled y.spelled) x.typed f))
+one_refused code (fault.BoundTooLarge «export».Cbak n) (fault.Untyped f i) x y p q =
+    absurd (untyped_here y.wasm f i y.untyped (subst AllTyped (module_at code x.wasm y.wasm x.spelled y.spelled) x.typed f))
+one_refused code (fault.BoundTooLarge «export».Hook n) (fault.BoundTooLarge «export».Hook k) x y p q =
+    ap (λ bound. fault.BoundTooLarge «export».Hook bound) (one_past is_hook y.wasm n k (subst (λ m. IsPast is_hook m n) (module_at code x.wasm y.wasm x.spelled y.spelled) x.past) y.past)
+one_refused code (fault.BoundTooLarge «export».Cbak n) (fault.BoundTooLarge «export».Cbak k) x y p q =
+    ap (λ bound. fault.BoundTooLarge «export».Cbak bound) (one_past is_cbak y.wasm n k (subst (λ m. IsPast is_cbak m n) (module_at code x.wasm y.wasm x.spelled y.spelled) x.past) y.past)
+one_refused code (fault.BoundTooLarge «export».Hook n) (fault.BoundTooLarge «export».Cbak k) x y p q =
+    absurd (past_or_within is_hook x.wasm n x.past (subst (IsWithin is_hook) (module_at code y.wasm x.wasm y.spelled x.spelled) y.hook))
+one_refused code (fault.BoundTooLarge «export».Cbak n) (fault.BoundTooLarge «export».Hook k) x y p q =
+    absurd (past_or_within is_hook y.wasm k y.past (subst (IsWithin is_hook) (module_at code x.wasm y.wasm x.spelled y.spelled) x.hook))
+
+pub one_refusal : (code : List ℕ) (a b : CheckFault) → IsRefused code a → IsRefused code b → a ≢ fault.NoMemory → b ≢ fault.NoMemory → a ≡ b
+one_refusal = one_refused
+
+-- ---- what is held of an accepted code
+
+pub one_module_held : (code : List ℕ) (a b : Held) → Holds code a → Holds code b → a.wasm ≡ b.wasm
+one_module_held code a b x y = module_at code a.wasm b.wasm x.hook.spelled y.hook.spelled
+
+pub one_hash : (code : List ℕ) (a b : Held) → Holds code a → Holds code b → a.hash ≡ b.hash
+one_hash code a b x y = x.hash ∙ sym y.hash
+
+pub one_hook_bound : (code : List ℕ) (a b : Held) → Holds code a → Holds code b → a.bound_hook ≡ b.bound_hook
+one_hook_bound code a b x y =
+    let e : Some a.bound_hook ≡ Some b.bound_hook = sym x.bound_hook ∙ ap (export_bound is_hook) (one_module_held code a b x y) ∙ y.bound_hook in cc
+
+pub one_cbak_bound : (code : List ℕ) (a b : Held) → Holds code a → Holds code b → a.bound_cbak ≡ b.bound_cbak
+one_cbak_bound code a b x y = sym x.bound_cbak ∙ ap (export_bound is_cbak) (one_module_held code a b x y) ∙ y.bound_cbak
