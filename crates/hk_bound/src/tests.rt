@@ -34,14 +34,22 @@ fn put(code: &mut Vec<u8>, number: u8, contents: &[u8]) -> Result<(), NoMemory> 
     Ok(())
 }
 
-/// The contents of the section of this number: those given, or else these.
-fn section<'a>(number: u8, given: &[Section<'a>], other: &'a [u8]) -> &'a [u8] {
+/// Adds the section of this number: the one that is given, or else this one, where it isn't empty.
+fn put_section(
+    code: &mut Vec<u8>,
+    number: u8,
+    given: &[Section<'_>],
+    other: &[u8],
+) -> Result<(), NoMemory> {
     for part in given {
         if part.0 == number {
-            return part.1;
+            return put(code, number, part.1);
         }
     }
-    other
+    if other.len() > 0 {
+        put(code, number, other)?;
+    }
+    Ok(())
 }
 
 /// A hook of one function with this body; the sections that are given stand in place of its own.
@@ -49,27 +57,21 @@ fn code_of(alloc: Global, given: &[Section<'_>], body: &[u8]) -> Result<Vec<u8>,
     let mut bodies = Vec::from_slice(alloc, &[0x01, (body.len() % 128) as u8])?;
     bodies.extend_from_slice(body)?;
     let mut code = Vec::from_slice(alloc, &HEADER)?;
-    put(&mut code, 1, section(1, given, &TYPES))?;
-    put(&mut code, 2, section(2, given, &IMPORTS))?;
-    put(&mut code, 3, section(3, given, &[0x01, 0x00]))?;
-    put(&mut code, 4, section(4, given, &[0x00]))?;
-    put(&mut code, 5, section(5, given, &[0x01, 0x00, 0x01]))?;
-    put(
-        &mut code,
-        6,
-        section(6, given, &[0x01, 0x7E, 0x01, 0x42, 0x00, 0x0B]),
-    )?;
-    put(&mut code, 7, section(7, given, &EXPORTS))?;
-    let start = section(8, given, &[]);
-    if start.len() > 0 {
-        put(&mut code, 8, start)?;
-    }
-    put(&mut code, 9, section(9, given, &[0x00]))?;
-    put(&mut code, 10, section(10, given, bodies.as_slice()))?;
-    put(
+    put_section(&mut code, 1, given, &TYPES)?;
+    put_section(&mut code, 2, given, &IMPORTS)?;
+    put_section(&mut code, 3, given, &[0x01, 0x00])?;
+    put_section(&mut code, 4, given, &[0x00])?;
+    put_section(&mut code, 5, given, &[0x01, 0x00, 0x01])?;
+    put_section(&mut code, 6, given, &[0x01, 0x7E, 0x01, 0x42, 0x00, 0x0B])?;
+    put_section(&mut code, 7, given, &EXPORTS)?;
+    put_section(&mut code, 8, given, &[])?;
+    put_section(&mut code, 9, given, &[0x00])?;
+    put_section(&mut code, 10, given, &bodies)?;
+    put_section(
         &mut code,
         11,
-        section(11, given, &[0x01, 0x00, 0x41, 0x00, 0x0B, 0x01, 0xAA]),
+        given,
+        &[0x01, 0x00, 0x41, 0x00, 0x0B, 0x01, 0xAA],
     )?;
     Ok(code)
 }
