@@ -144,7 +144,7 @@ entry_by m i e = at (function_type m i) refl e
 entry_fine : (imported : ℕ) (m : Module) (x : ModuleExport) → (is_hook x || is_cbak x) ≡ true → is_bad_export imported m x ≡ false → IsEntryType m (x.index - imported)
 entry_fine imported m x named fine =
     let arms : (if is_hook x || is_cbak x then not (is_entry imported m x) else x.kind == 0) ≡ false =
-        or_right (nat_le (count_of_kind imported m x.kind) x.index) (if is_hook x || is_cbak x then not (is_entry imported m x) else x.kind == 0) fine in
+    or_right (nat_le (count_of_kind imported m x.kind) x.index) (if is_hook x || is_cbak x then not (is_entry imported m x) else x.kind == 0) fine in
     let is : is_entry imported m x ≡ true = not_false (is_entry imported m x) (ap (λ b. if b then not (is_entry imported m x) else x.kind == 0) (sym named) ∙ arms) in
     entry_by m (x.index - imported) (and_right (nat_le imported x.index) (option_map_or (is_function_type (I32 ∷ []) I64) (function_type m (x.index - imported)) false)
     (and_right (x.kind == 0) (nat_le imported x.index && option_map_or (is_function_type (I32 ∷ []) I64) (function_type m (x.index - imported)) false) is))
