@@ -1,0 +1,33 @@
+-- What follows for a module that meets the rules, and for a code that is accepted (this project's own).
+use Rattle.std.specs.Prelude.{ℕ, ◌≡◌, ◌≢◌, ◌⊎◌, ◌<◌, List, [], ◌∷◌, Some, length}
+use Rattle.wa_ops.specs.declared.modules.Module.{Module}
+use Rattle.wa_ops.specs.declared.op.ValueType.TheVariants.{I32, I64}
+use Rattle.wa_ops.specs.Bound.{IsGuarded}
+use Rattle.wa_ops.specs.Contexts.{calls_of, function_type, parameters_of, result_of}
+use Rattle.wa_ops.specs.HookRules.{IsRuled, is_cbak, is_hook}
+use Rattle.wa_ops.specs.Sequences.{Sequence}
+use Rattle.wa_validate.specs.Untyped.{body_of}
+use Rattle.hk_rules.specs.Guards.{entry_of}
+use Rattle.hk_bound.specs.Checks.{IsHook, IsRefused}
+use Rattle.hk_bound.specs.declared.fault.CheckFault.{CheckFault}
+use Rattle.hk_bound.specs.declared.fault.CheckFault.TheVariants as fault
+
+-- each loop of a module that meets the rules begins with its guard
+abbrev pub GuardedLoops : Type 0
+GuardedLoops = (m : Module) (func : ℕ) (body : Sequence) → IsRuled m → body_of m func ≡ Some body → IsGuarded (calls_of m.imports) body
+
+-- a defined function from i32 to i64
+pub record IsEntryType (m : Module) (func : ℕ) : Type 0 where
+  pub within : func < length m.functions
+  pub parameters : parameters_of (function_type m func) ≡ I32 ∷ []
+  pub result : result_of (function_type m func) ≡ Some I64
+
+-- `hook` and `cbak` of a module that meets the rules are such functions
+abbrev pub EntryTypes : Type 0
+EntryTypes = (m : Module) (func : ℕ) → IsRuled m
+    → (entry_of (length (calls_of m.imports)) is_hook m.exports ≡ Some func) ⊎ (entry_of (length (calls_of m.imports)) is_cbak m.exports ≡ Some func)
+    → IsEntryType m func
+
+-- no accepted code is refused
+abbrev pub OneVerdict : Type 0
+OneVerdict = (code : List ℕ) (m : Module) (found : CheckFault) → found ≢ fault.NoMemory → IsHook code m → IsRefused code found → ⊥
