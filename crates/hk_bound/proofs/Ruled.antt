@@ -1,5 +1,5 @@
 -- What the rules say of imports and exports.
-use Rattle.std.proofs.Common.{ℕ, ◌≡◌, ◌+◌, ◌-◌, ◌<◌, ◌≤◌, ◌==◌, ◌&&◌, ◌||◌, suc, zero, List, [], ◌∷◌, ◌∙◌, not, Bool, true, false, Option, Some, None, refl, sym, ap, ap₂, subst, length, reverse, arith}
+use Rattle.std.proofs.Common.{ℕ, ◌≡◌, ◌+◌, ◌-◌, ◌<◌, ◌≤◌, ◌==◌, ◌&&◌, ◌||◌, inl, inr, suc, zero, List, [], ◌∷◌, ◌∙◌, not, Bool, true, false, Option, Some, None, refl, sym, ap, ap₂, subst, length, reverse, arith}
 use Rattle.std.specs.Prelude.{slice_get, find, if◌then◌else◌, option_map, codes, nat_le}
 use Rattle.std.specs.List.{list_any}
 use Rattle.std.specs.Option.{option_map_or}
@@ -14,13 +14,14 @@ use Rattle.wa_ops.specs.declared.modules.ModuleExport.{ModuleExport}
 use Rattle.wa_ops.specs.declared.op.ValueType.{ValueType}
 use Rattle.wa_ops.specs.declared.op.ValueType.TheVariants.{I32, I64, F32, F64}
 use Rattle.wa_ops.specs.Callees.{takes, gives}
-use Rattle.wa_ops.specs.Contexts.{calls_of, callee_of_row, function_type}
+use Rattle.wa_ops.specs.Contexts.{calls_of, callee_of_row, first_of, function_type, parameters_of, result_of}
 use Rattle.wa_ops.specs.HookRules.{are_types, count_of_kind, has_repeats, is_api_import, is_bad_export, is_cbak, is_entry, is_function_type, is_hook, is_row_item, is_row_type, IsRuled, passes}
 use Rattle.wa_ops.specs.Rows.{row_named, row_parameters, row_answer}
 use Rattle.wa_ops.specs.Typing.{and_then, is_same_type}
 use Rattle.wa_validate.specs.Needs.{AllRowTypes, HasRowType, IsTypeOf}
 use Rattle.hk_rules.specs.Guards.{entry_of}
 use Rattle.hk_rules.proofs.Importing.{both_true}
+use Rattle.hk_bound.specs.Laws.{EntryTypes, IsEntryType}
 
 -- ---- imports
 
@@ -129,14 +130,24 @@ typed_within functions i types test e = at (slice_get functions i) refl e
     at None h e = absurd (cc e)
     at (Some x) h e = slice_get_within functions i x h
 
-entry_fine : (imported : ℕ) (m : Module) (x : ModuleExport) → (is_hook x || is_cbak x) ≡ true → is_bad_export imported m x ≡ false → x.index - imported < length m.functions
+entry_by : (m : Module) (i : ℕ) → option_map_or (is_function_type (I32 ∷ []) I64) (function_type m i) false ≡ true → IsEntryType m i
+entry_by m i e = at (function_type m i) refl e
+  where
+    at : (o : Option FuncType) → function_type m i ≡ o → option_map_or (is_function_type (I32 ∷ []) I64) o false ≡ true → IsEntryType m i
+    at None h k = absurd (cc k)
+    at (Some t) h k = record {
+      within = typed_within m.functions i (λ index. slice_get m.types index) (is_function_type (I32 ∷ []) I64) e;
+      parameters = ap parameters_of h ∙ types_same t.parameters (I32 ∷ []) (and_left (are_types t.parameters (I32 ∷ [])) (are_types t.results (I64 ∷ [])) k);
+      result = ap result_of h ∙ ap first_of (types_same t.results (I64 ∷ []) (and_right (are_types t.parameters (I32 ∷ [])) (are_types t.results (I64 ∷ [])) k));
+    }
+
+entry_fine : (imported : ℕ) (m : Module) (x : ModuleExport) → (is_hook x || is_cbak x) ≡ true → is_bad_export imported m x ≡ false → IsEntryType m (x.index - imported)
 entry_fine imported m x named fine =
     let arms : (if is_hook x || is_cbak x then not (is_entry imported m x) else x.kind == 0) ≡ false =
     or_right (nat_le (count_of_kind imported m x.kind) x.index) (if is_hook x || is_cbak x then not (is_entry imported m x) else x.kind == 0) fine in
     let is : is_entry imported m x ≡ true = not_false (is_entry imported m x) (ap (λ b. if b then not (is_entry imported m x) else x.kind == 0) (sym named) ∙ arms) in
-    let typed = and_right (nat_le imported x.index) (option_map_or (is_function_type (I32 ∷ []) I64) (function_type m (x.index - imported)) false)
-    (and_right (x.kind == 0) (nat_le imported x.index && option_map_or (is_function_type (I32 ∷ []) I64) (function_type m (x.index - imported)) false) is) in
-    typed_within m.functions (x.index - imported) (λ index. slice_get m.types index) (is_function_type (I32 ∷ []) I64) typed
+    entry_by m (x.index - imported) (and_right (nat_le imported x.index) (option_map_or (is_function_type (I32 ∷ []) I64) (function_type m (x.index - imported)) false)
+    (and_right (x.kind == 0) (nat_le imported x.index && option_map_or (is_function_type (I32 ∷ []) I64) (function_type m (x.index - imported)) false) is))
 
 or_true_left : (a b : Bool) → a ≡ true → (a || b) ≡ true
 or_true_left true b e = refl
@@ -151,14 +162,18 @@ no_bad m kept =
     or_right (not (list_any is_hook m.exports)) (list_any (is_bad_export (length (calls_of m.imports)) m) m.exports)
     (or_right (has_repeats m.exports) (not (list_any is_hook m.exports) || list_any (is_bad_export (length (calls_of m.imports)) m) m.exports) (kept.1.1.1.1.1.1.1.1.1.1.0 0 0))
 
-entry_within : (m : Module) (is_named : ModuleExport → Bool) (func : ℕ) → ((x : ModuleExport) → is_named x ≡ true → (is_hook x || is_cbak x) ≡ true) → IsRuled m
-    → entry_of (length (calls_of m.imports)) is_named m.exports ≡ Some func → func < length m.functions
-entry_within m is_named func either kept e =
+entry_named : (m : Module) (is_named : ModuleExport → Bool) (func : ℕ) → ((x : ModuleExport) → is_named x ≡ true → (is_hook x || is_cbak x) ≡ true) → IsRuled m
+    → entry_of (length (calls_of m.imports)) is_named m.exports ≡ Some func → IsEntryType m func
+entry_named m is_named func either kept e =
     let x = named_in is_named (is_bad_export (length (calls_of m.imports)) m) (λ x. x.index - length (calls_of m.imports)) m.exports func (no_bad m kept) e in
-    subst (λ n. n < length m.functions) x.is (entry_fine (length (calls_of m.imports)) m x.found (either x.found x.named) x.fine)
+    subst (IsEntryType m) x.is (entry_fine (length (calls_of m.imports)) m x.found (either x.found x.named) x.fine)
+
+pub entry_types : EntryTypes
+entry_types m func kept (inl e) = entry_named m is_hook func (λ x h. or_true_left (is_hook x) (is_cbak x) h) kept e
+entry_types m func kept (inr e) = entry_named m is_cbak func (λ x h. or_true_right (is_hook x) (is_cbak x) h) kept e
 
 pub hook_within : (m : Module) (func : ℕ) → IsRuled m → entry_of (length (calls_of m.imports)) is_hook m.exports ≡ Some func → func < length m.functions
-hook_within m func = entry_within m is_hook func (λ x e. or_true_left (is_hook x) (is_cbak x) e)
+hook_within m func kept e = (entry_types m func kept (inl e)).within
 
 pub cbak_within : (m : Module) (func : ℕ) → IsRuled m → entry_of (length (calls_of m.imports)) is_cbak m.exports ≡ Some func → func < length m.functions
-cbak_within m func = entry_within m is_cbak func (λ x e. or_true_right (is_hook x) (is_cbak x) e)
+cbak_within m func kept e = (entry_types m func kept (inr e)).within

@@ -5,12 +5,14 @@ mod bounding;
 mod checked;
 mod checking;
 mod fault;
+mod laws;
 mod weighing;
 
 pub use bounding::bound;
 pub use checked::Checked;
 pub use checking::check;
 pub use fault::{CheckFault, Export};
+pub use laws::{entry_types, guarded_loops, one_verdict};
 
 #[cfg(test)]
 mod tests;

@@ -4,28 +4,23 @@ use std::alloc::Global;
 use std::test::Fail;
 use wa_ops::NoMemory;
 
-/// The contents of a section, with its number.
-type Section<'a> = (u8, &'a [u8]);
+/// Two sections that stand in place of the hook's own, by number and contents (0 for none), the body, and what is answered.
+type Row<'a> = (u8, &'a [u8], u8, &'a [u8], &'a [u8], &'a str);
 
-const HEADER: [u8; 8] = [0x00, 0x61, 0x73, 0x6D, 0x01, 0x00, 0x00, 0x00];
+const HEADER: &[u8] = b"\x00\x61\x73\x6D\x01\x00\x00\x00";
 
 /// The types of `hook`, `accept` and `_g`.
-const TYPES: [u8; 19] = [
-    0x03, 0x60, 0x01, 0x7F, 0x01, 0x7E, 0x60, 0x03, 0x7F, 0x7F, 0x7E, 0x01, 0x7E, 0x60, 0x02, 0x7F,
-    0x7F, 0x01, 0x7F,
-];
+const TYPES: &[u8] =
+    b"\x03\x60\x01\x7F\x01\x7E\x60\x03\x7F\x7F\x7E\x01\x7E\x60\x02\x7F\x7F\x01\x7F";
 
 /// `env.accept` and `env._g`.
-const IMPORTS: [u8; 23] = [
-    0x02, 0x03, 0x65, 0x6E, 0x76, 0x06, 0x61, 0x63, 0x63, 0x65, 0x70, 0x74, 0x00, 0x01, 0x03, 0x65,
-    0x6E, 0x76, 0x02, 0x5F, 0x67, 0x00, 0x02,
-];
+const IMPORTS: &[u8] = b"\x02\x03env\x06accept\x00\x01\x03env\x02_g\x00\x02";
 
 /// The export `hook` of the one function.
-const EXPORTS: [u8; 8] = [0x01, 0x04, 0x68, 0x6F, 0x6F, 0x6B, 0x00, 0x02];
+const EXPORTS: &[u8] = b"\x01\x04hook\x00\x02";
 
 /// A body that gives 0.
-const PLAIN: [u8; 4] = [0x00, 0x42, 0x00, 0x0B];
+const PLAIN: &[u8] = b"\x00\x42\x00\x0B";
 
 fn put(code: &mut Vec<u8>, number: u8, contents: &[u8]) -> Result<(), NoMemory> {
     code.push(number)?;
@@ -34,43 +29,44 @@ fn put(code: &mut Vec<u8>, number: u8, contents: &[u8]) -> Result<(), NoMemory> 
     Ok(())
 }
 
-/// The contents of the section of this number: those given, or else these.
-fn section<'a>(number: u8, given: &[Section<'a>], other: &'a [u8]) -> &'a [u8] {
-    for part in given {
-        if part.0 == number {
-            return part.1;
-        }
+/// Adds the section of this number: the one that is given, or else this one, where it isn't empty.
+fn put_section(code: &mut Vec<u8>, number: u8, row: &Row<'_>, own: &[u8]) -> Result<(), NoMemory> {
+    if row.0 == number {
+        return put(code, number, row.1);
     }
-    other
+    if row.2 == number {
+        return put(code, number, row.3);
+    }
+    if own.len() > 0 {
+        put(code, number, own)?;
+    }
+    Ok(())
 }
 
-/// A hook of one function with this body; the sections that are given stand in place of its own.
-fn code_of(alloc: Global, given: &[Section<'_>], body: &[u8]) -> Result<Vec<u8>, NoMemory> {
-    let mut bodies = Vec::from_slice(alloc, &[0x01, (body.len() % 128) as u8])?;
+/// The code section of one function with this body.
+fn one_body(alloc: Global, body: &[u8]) -> Result<Vec<u8>, NoMemory> {
+    let mut bodies = Vec::new(alloc);
+    bodies.push(1)?;
+    bodies.push((body.len() % 128) as u8)?;
     bodies.extend_from_slice(body)?;
-    let mut code = Vec::from_slice(alloc, &HEADER)?;
-    put(&mut code, 1, section(1, given, &TYPES))?;
-    put(&mut code, 2, section(2, given, &IMPORTS))?;
-    put(&mut code, 3, section(3, given, &[0x01, 0x00]))?;
-    put(&mut code, 4, section(4, given, &[0x00]))?;
-    put(&mut code, 5, section(5, given, &[0x01, 0x00, 0x01]))?;
-    put(
-        &mut code,
-        6,
-        section(6, given, &[0x01, 0x7E, 0x01, 0x42, 0x00, 0x0B]),
-    )?;
-    put(&mut code, 7, section(7, given, &EXPORTS))?;
-    let start = section(8, given, &[]);
-    if start.len() > 0 {
-        put(&mut code, 8, start)?;
-    }
-    put(&mut code, 9, section(9, given, &[0x00]))?;
-    put(&mut code, 10, section(10, given, bodies.as_slice()))?;
-    put(
-        &mut code,
-        11,
-        section(11, given, &[0x01, 0x00, 0x41, 0x00, 0x0B, 0x01, 0xAA]),
-    )?;
+    Ok(bodies)
+}
+
+/// The hook of a row.
+fn code_of(alloc: Global, row: &Row<'_>) -> Result<Vec<u8>, NoMemory> {
+    let bodies = one_body(alloc, row.4)?;
+    let mut code = Vec::from_slice(alloc, HEADER)?;
+    put_section(&mut code, 1, row, TYPES)?;
+    put_section(&mut code, 2, row, IMPORTS)?;
+    put_section(&mut code, 3, row, b"\x01\x00")?;
+    put_section(&mut code, 4, row, b"\x00")?;
+    put_section(&mut code, 5, row, b"\x01\x00\x01")?;
+    put_section(&mut code, 6, row, b"\x01\x7E\x01\x42\x00\x0B")?;
+    put_section(&mut code, 7, row, EXPORTS)?;
+    put_section(&mut code, 8, row, b"")?;
+    put_section(&mut code, 9, row, b"\x00")?;
+    put_section(&mut code, 10, row, &bodies)?;
+    put_section(&mut code, 11, row, b"\x01\x00\x41\x00\x0B\x01\xAA")?;
     Ok(code)
 }
 
@@ -82,510 +78,552 @@ fn shown(alloc: Global, code: &[u8]) -> Result<String, NoMemory> {
     }
 }
 
+/// How many rows are answered as they say, up to the first that isn't.
+fn right_rows(alloc: Global, rows: &[Row<'_>]) -> Result<usize, NoMemory> {
+    for (index, row) in rows.iter().enumerate() {
+        let code = code_of(alloc, row)?;
+        let found = shown(alloc, &code)?;
+        if found.as_str() != row.5 {
+            return Ok(index);
+        }
+    }
+    Ok(rows.len())
+}
+
 #[test]
-fn one_refusal_for_each_rule(rt: HostRuntime) -> Result<(), Fail> {
-    let rows: [(&[Section<'_>], &[u8], &str); 50] = [
-        (&[], &PLAIN, "2 None"),
+fn floats_imports_and_types(rt: HostRuntime) -> Result<(), Fail> {
+    let rows: [Row<'_>; 12] = [
+        (0, b"", 0, b"", PLAIN, "2 None"),
         (
-            &[(
-                1,
-                &[
-                    0x04, 0x60, 0x01, 0x7F, 0x01, 0x7E, 0x60, 0x03, 0x7F, 0x7F, 0x7E, 0x01, 0x7E,
-                    0x60, 0x02, 0x7F, 0x7F, 0x01, 0x7F, 0x60, 0x01, 0x7D, 0x00,
-                ],
-            )],
-            &PLAIN,
+            1,
+            b"\x04\x60\x01\x7F\x01\x7E\x60\x03\x7F\x7F\x7E\x01\x7E\x60\x02\x7F\x7F\x01\x7F\x60\x01\x7D\x00",
+            0,
+            b"",
+            PLAIN,
             "Rule(FloatType { index: 3 })",
         ),
         (
-            &[(6, &[0x01, 0x7C, 0x00, 0x42, 0x00, 0x0B])],
-            &PLAIN,
+            6,
+            b"\x01\x7C\x00\x42\x00\x0B",
+            0,
+            b"",
+            PLAIN,
             "Rule(FloatGlobal { index: 0 })",
         ),
         (
-            &[],
-            &[0x02, 0x01, 0x7F, 0x00, 0x7C, 0x42, 0x00, 0x0B],
+            0,
+            b"",
+            0,
+            b"",
+            b"\x02\x01\x7F\x00\x7C\x42\x00\x0B",
             "Rule(FloatLocals { func: 0 })",
         ),
         (
-            &[],
-            &[
-                0x00, 0x00, 0x43, 0x00, 0x00, 0x00, 0x00, 0x1A, 0x42, 0x00, 0x0B,
-            ],
+            0,
+            b"",
+            0,
+            b"",
+            b"\x00\x00\x43\x00\x00\x00\x00\x1A\x42\x00\x0B",
             "Rule(FloatCode { func: 0, op: 1 })",
         ),
         (
-            &[],
-            &[0x00, 0x42, 0x00, 0x02, 0x7D, 0x00, 0x0B, 0x1A, 0x0B],
+            0,
+            b"",
+            0,
+            b"",
+            b"\x00\x42\x00\x02\x7D\x00\x0B\x1A\x0B",
             "Rule(FloatCode { func: 0, op: 1 })",
         ),
-        // imports: another module, another name, another type, a memory
         (
-            &[(
-                2,
-                &[
-                    0x02, 0x03, 0x65, 0x6E, 0x76, 0x06, 0x61, 0x63, 0x63, 0x65, 0x70, 0x74, 0x00,
-                    0x01, 0x03, 0x65, 0x6E, 0x77, 0x02, 0x5F, 0x67, 0x00, 0x02,
-                ],
-            )],
-            &PLAIN,
+            2,
+            b"\x02\x03\x65\x6E\x76\x06\x61\x63\x63\x65\x70\x74\x00\x01\x03\x65\x6E\x77\x02\x5F\x67\x00\x02",
+            0,
+            b"",
+            PLAIN,
             "Rule(BadImport { index: 1 })",
         ),
         (
-            &[(
-                2,
-                &[
-                    0x02, 0x03, 0x65, 0x6E, 0x76, 0x06, 0x61, 0x63, 0x63, 0x65, 0x70, 0x74, 0x00,
-                    0x01, 0x03, 0x65, 0x6E, 0x76, 0x02, 0x5F, 0x68, 0x00, 0x02,
-                ],
-            )],
-            &PLAIN,
+            2,
+            b"\x02\x03\x65\x6E\x76\x06\x61\x63\x63\x65\x70\x74\x00\x01\x03\x65\x6E\x76\x02\x5F\x68\x00\x02",
+            0,
+            b"",
+            PLAIN,
             "Rule(BadImport { index: 1 })",
         ),
         (
-            &[(
-                2,
-                &[
-                    0x02, 0x03, 0x65, 0x6E, 0x76, 0x06, 0x61, 0x63, 0x63, 0x65, 0x70, 0x74, 0x00,
-                    0x02, 0x03, 0x65, 0x6E, 0x76, 0x02, 0x5F, 0x67, 0x00, 0x02,
-                ],
-            )],
-            &PLAIN,
+            2,
+            b"\x02\x03\x65\x6E\x76\x06\x61\x63\x63\x65\x70\x74\x00\x02\x03\x65\x6E\x76\x02\x5F\x67\x00\x02",
+            0,
+            b"",
+            PLAIN,
             "Rule(BadImport { index: 0 })",
         ),
         (
-            &[(
-                2,
-                &[
-                    0x02, 0x03, 0x65, 0x6E, 0x76, 0x06, 0x61, 0x63, 0x63, 0x65, 0x70, 0x74, 0x00,
-                    0x01, 0x03, 0x65, 0x6E, 0x76, 0x02, 0x5F, 0x67, 0x02, 0x00, 0x01,
-                ],
-            )],
-            &PLAIN,
+            2,
+            b"\x02\x03\x65\x6E\x76\x06\x61\x63\x63\x65\x70\x74\x00\x01\x03\x65\x6E\x76\x02\x5F\x67\x02\x00\x01",
+            0,
+            b"",
+            PLAIN,
             "Rule(BadImport { index: 1 })",
         ),
         (
-            &[(
-                1,
-                &[
-                    0x04, 0x60, 0x01, 0x7F, 0x01, 0x7E, 0x60, 0x03, 0x7F, 0x7F, 0x7E, 0x01, 0x7E,
-                    0x60, 0x02, 0x7F, 0x7F, 0x01, 0x7F, 0x60, 0x00, 0x02, 0x7F, 0x7F,
-                ],
-            )],
-            &PLAIN,
+            1,
+            b"\x04\x60\x01\x7F\x01\x7E\x60\x03\x7F\x7F\x7E\x01\x7E\x60\x02\x7F\x7F\x01\x7F\x60\x00\x02\x7F\x7F",
+            0,
+            b"",
+            PLAIN,
             "Rule(BadType { index: 3 })",
         ),
         (
-            &[(3, &[0x01, 0x03])],
-            &PLAIN,
+            3,
+            b"\x01\x03",
+            0,
+            b"",
+            PLAIN,
             "Rule(BadFunction { func: 0 })",
         ),
+    ];
+    assert_eq!(rt; right_rows(rt.alloc(), &rows)?, 12);
+    Ok(())
+}
+
+#[test]
+fn tables_memories_and_globals(rt: HostRuntime) -> Result<(), Fail> {
+    let rows: [Row<'_>; 12] = [
         (
-            &[(4, &[0x02, 0x70, 0x00, 0x00, 0x70, 0x00, 0x00])],
-            &PLAIN,
+            4,
+            b"\x02\x70\x00\x00\x70\x00\x00",
+            0,
+            b"",
+            PLAIN,
             "Rule(BadTable)",
         ),
+        (4, b"\x01\x70\x01\x02\x01", 0, b"", PLAIN, "Rule(BadTable)"),
+        (4, b"\x01\x70\x01\x02\x02", 0, b"", PLAIN, "2 None"),
+        (5, b"\x02\x00\x01\x00\x01", 0, b"", PLAIN, "Rule(BadMemory)"),
+        (5, b"\x01\x00\x11", 0, b"", PLAIN, "Rule(BadMemory)"),
+        (5, b"\x01\x00\x10", 0, b"", PLAIN, "2 None"),
+        (5, b"\x01\x01\x02\x01", 0, b"", PLAIN, "Rule(BadMemory)"),
         (
-            &[(4, &[0x01, 0x70, 0x01, 0x02, 0x01])],
-            &PLAIN,
-            "Rule(BadTable)",
-        ),
-        (&[(4, &[0x01, 0x70, 0x01, 0x02, 0x02])], &PLAIN, "2 None"),
-        (
-            &[(5, &[0x02, 0x00, 0x01, 0x00, 0x01])],
-            &PLAIN,
+            5,
+            b"\x01\x01\x01\x81\x80\x04",
+            0,
+            b"",
+            PLAIN,
             "Rule(BadMemory)",
         ),
-        (&[(5, &[0x01, 0x00, 0x11])], &PLAIN, "Rule(BadMemory)"),
-        (&[(5, &[0x01, 0x00, 0x10])], &PLAIN, "2 None"),
-        (&[(5, &[0x01, 0x01, 0x02, 0x01])], &PLAIN, "Rule(BadMemory)"),
+        (5, b"\x01\x01\x01\x80\x80\x04", 0, b"", PLAIN, "2 None"),
         (
-            &[(5, &[0x01, 0x01, 0x01, 0x81, 0x80, 0x04])],
-            &PLAIN,
-            "Rule(BadMemory)",
-        ),
-        (
-            &[(5, &[0x01, 0x01, 0x01, 0x80, 0x80, 0x04])],
-            &PLAIN,
-            "2 None",
-        ),
-        (
-            &[(
-                6,
-                &[
-                    0x02, 0x7E, 0x01, 0x42, 0x00, 0x0B, 0x7E, 0x01, 0x41, 0x00, 0x0B,
-                ],
-            )],
-            &PLAIN,
+            6,
+            b"\x02\x7E\x01\x42\x00\x0B\x7E\x01\x41\x00\x0B",
+            0,
+            b"",
+            PLAIN,
             "Rule(BadGlobal { index: 1 })",
         ),
         (
-            &[(6, &[0x01, 0x7E, 0x01, 0x0B])],
-            &PLAIN,
+            6,
+            b"\x01\x7E\x01\x0B",
+            0,
+            b"",
+            PLAIN,
             "Rule(BadGlobal { index: 0 })",
         ),
         (
-            &[(6, &[0x01, 0x7E, 0x01, 0x42, 0x00, 0x01, 0x0B])],
-            &PLAIN,
+            6,
+            b"\x01\x7E\x01\x42\x00\x01\x0B",
+            0,
+            b"",
+            PLAIN,
             "Rule(BadGlobal { index: 0 })",
         ),
-        // exports: twice, out of range, no `hook`, an import, another type, another name, a memory is fine
+    ];
+    assert_eq!(rt; right_rows(rt.alloc(), &rows)?, 12);
+    Ok(())
+}
+
+#[test]
+fn exports_and_links(rt: HostRuntime) -> Result<(), Fail> {
+    let rows: [Row<'_>; 11] = [
         (
-            &[(
-                7,
-                &[
-                    0x02, 0x04, 0x68, 0x6F, 0x6F, 0x6B, 0x00, 0x02, 0x04, 0x68, 0x6F, 0x6F, 0x6B,
-                    0x00, 0x02,
-                ],
-            )],
-            &PLAIN,
+            7,
+            b"\x02\x04\x68\x6F\x6F\x6B\x00\x02\x04\x68\x6F\x6F\x6B\x00\x02",
+            0,
+            b"",
+            PLAIN,
             "Rule(BadExport)",
         ),
         (
-            &[(7, &[0x01, 0x04, 0x68, 0x6F, 0x6F, 0x6B, 0x00, 0x03])],
-            &PLAIN,
+            7,
+            b"\x01\x04\x68\x6F\x6F\x6B\x00\x03",
+            0,
+            b"",
+            PLAIN,
+            "Rule(BadExport)",
+        ),
+        (7, b"\x01\x01\x6D\x02\x00", 0, b"", PLAIN, "Rule(BadExport)"),
+        (
+            7,
+            b"\x01\x04\x68\x6F\x6F\x6B\x00\x01",
+            0,
+            b"",
+            PLAIN,
+            "Rule(BadExport)",
+        ),
+        (3, b"\x01\x01", 0, b"", PLAIN, "Rule(BadExport)"),
+        (
+            7,
+            b"\x02\x04\x68\x6F\x6F\x6B\x00\x02\x01\x66\x00\x02",
+            0,
+            b"",
+            PLAIN,
             "Rule(BadExport)",
         ),
         (
-            &[(7, &[0x01, 0x01, 0x6D, 0x02, 0x00])],
-            &PLAIN,
+            7,
+            b"\x02\x04\x68\x6F\x6F\x6B\x00\x02\x01\x6D\x02\x01",
+            0,
+            b"",
+            PLAIN,
             "Rule(BadExport)",
         ),
         (
-            &[(7, &[0x01, 0x04, 0x68, 0x6F, 0x6F, 0x6B, 0x00, 0x01])],
-            &PLAIN,
-            "Rule(BadExport)",
-        ),
-        (&[(3, &[0x01, 0x01])], &PLAIN, "Rule(BadExport)"),
-        (
-            &[(
-                7,
-                &[
-                    0x02, 0x04, 0x68, 0x6F, 0x6F, 0x6B, 0x00, 0x02, 0x01, 0x66, 0x00, 0x02,
-                ],
-            )],
-            &PLAIN,
-            "Rule(BadExport)",
-        ),
-        (
-            &[(
-                7,
-                &[
-                    0x02, 0x04, 0x68, 0x6F, 0x6F, 0x6B, 0x00, 0x02, 0x01, 0x6D, 0x02, 0x01,
-                ],
-            )],
-            &PLAIN,
-            "Rule(BadExport)",
-        ),
-        (
-            &[(
-                7,
-                &[
-                    0x02, 0x04, 0x68, 0x6F, 0x6F, 0x6B, 0x00, 0x02, 0x01, 0x6D, 0x02, 0x00,
-                ],
-            )],
-            &PLAIN,
+            7,
+            b"\x02\x04\x68\x6F\x6F\x6B\x00\x02\x01\x6D\x02\x00",
+            0,
+            b"",
+            PLAIN,
             "2 None",
         ),
         (
-            &[(
-                7,
-                &[
-                    0x02, 0x04, 0x68, 0x6F, 0x6F, 0x6B, 0x00, 0x02, 0x04, 0x63, 0x62, 0x61, 0x6B,
-                    0x00, 0x02,
-                ],
-            )],
-            &PLAIN,
+            7,
+            b"\x02\x04\x68\x6F\x6F\x6B\x00\x02\x04\x63\x62\x61\x6B\x00\x02",
+            0,
+            b"",
+            PLAIN,
             "2 Some(2)",
         ),
-        (&[(8, &[0x02])], &PLAIN, "Rule(Start)"),
+        (8, b"\x02", 0, b"", PLAIN, "Rule(Start)"),
         (
-            &[(9, &[0x01, 0x00, 0x41, 0x00, 0x0B, 0x00])],
-            &PLAIN,
+            9,
+            b"\x01\x00\x41\x00\x0B\x00",
+            0,
+            b"",
+            PLAIN,
             "Rule(Elements)",
         ),
-        // data: past the end, another memory, no memory, no constant, exactly up to the end
+    ];
+    assert_eq!(rt; right_rows(rt.alloc(), &rows)?, 11);
+    Ok(())
+}
+
+#[test]
+fn data_segments(rt: HostRuntime) -> Result<(), Fail> {
+    let rows: [Row<'_>; 6] = [
         (
-            &[(
-                11,
-                &[
-                    0x02, 0x00, 0x41, 0x00, 0x0B, 0x00, 0x00, 0x41, 0x80, 0x80, 0x04, 0x0B, 0x01,
-                    0xAA,
-                ],
-            )],
-            &PLAIN,
+            11,
+            b"\x02\x00\x41\x00\x0B\x00\x00\x41\x80\x80\x04\x0B\x01\xAA",
+            0,
+            b"",
+            PLAIN,
             "Rule(BadData { index: 1 })",
         ),
         (
-            &[(11, &[0x01, 0x00, 0x41, 0x7F, 0x0B, 0x01, 0xAA])],
-            &PLAIN,
+            11,
+            b"\x01\x00\x41\x7F\x0B\x01\xAA",
+            0,
+            b"",
+            PLAIN,
             "Rule(BadData { index: 0 })",
         ),
         (
-            &[(11, &[0x01, 0x01, 0x41, 0x00, 0x0B, 0x01, 0xAA])],
-            &PLAIN,
+            11,
+            b"\x01\x01\x41\x00\x0B\x01\xAA",
+            0,
+            b"",
+            PLAIN,
             "Rule(BadData { index: 0 })",
         ),
-        (&[(5, &[0x00])], &PLAIN, "Rule(BadData { index: 0 })"),
+        (5, b"\x00", 0, b"", PLAIN, "Rule(BadData { index: 0 })"),
         (
-            &[(11, &[0x01, 0x00, 0x42, 0x00, 0x0B, 0x01, 0xAA])],
-            &PLAIN,
+            11,
+            b"\x01\x00\x42\x00\x0B\x01\xAA",
+            0,
+            b"",
+            PLAIN,
             "Rule(BadData { index: 0 })",
         ),
         (
-            &[(11, &[0x01, 0x00, 0x41, 0xFF, 0xFF, 0x03, 0x0B, 0x01, 0xAA])],
-            &PLAIN,
+            11,
+            b"\x01\x00\x41\xFF\xFF\x03\x0B\x01\xAA",
+            0,
+            b"",
+            PLAIN,
             "2 None",
         ),
+    ];
+    assert_eq!(rt; right_rows(rt.alloc(), &rows)?, 6);
+    Ok(())
+}
+
+#[test]
+fn code_and_guards(rt: HostRuntime) -> Result<(), Fail> {
+    let rows: [Row<'_>; 9] = [
         (
-            &[],
-            &[0x01, 0x80, 0x20, 0x7F, 0x42, 0x00, 0x0B],
+            0,
+            b"",
+            0,
+            b"",
+            b"\x01\x80\x20\x7F\x42\x00\x0B",
             "Rule(TooManyLocals { func: 0 })",
         ),
-        (&[], &[0x01, 0xFF, 0x1F, 0x7F, 0x42, 0x00, 0x0B], "2 None"),
+        (0, b"", 0, b"", b"\x01\xFF\x1F\x7F\x42\x00\x0B", "2 None"),
         (
-            &[],
-            &[0x00, 0x41, 0x00, 0x11, 0x00, 0x00, 0x0B],
+            0,
+            b"",
+            0,
+            b"",
+            b"\x00\x41\x00\x11\x00\x00\x0B",
             "Rule(IndirectCall { func: 0, op: 1 })",
         ),
         (
-            &[],
-            &[0x00, 0x41, 0x00, 0x40, 0x00, 0x1A, 0x42, 0x00, 0x0B],
+            0,
+            b"",
+            0,
+            b"",
+            b"\x00\x41\x00\x40\x00\x1A\x42\x00\x0B",
             "Rule(Grow { func: 0, op: 1 })",
         ),
         (
-            &[],
-            &[0x00, 0x20, 0x00, 0x10, 0x02, 0x0B],
+            0,
+            b"",
+            0,
+            b"",
+            b"\x00\x20\x00\x10\x02\x0B",
             "Rule(OwnCall { func: 0, op: 1 })",
         ),
         (
-            &[],
-            &[
-                0x00, 0x41, 0x01, 0x20, 0x00, 0x10, 0x01, 0x1A, 0x42, 0x00, 0x0B,
-            ],
+            0,
+            b"",
+            0,
+            b"",
+            b"\x00\x41\x01\x20\x00\x10\x01\x1A\x42\x00\x0B",
             "Rule(GuardNotConstant { func: 0, op: 2 })",
         ),
         (
-            &[],
-            &[
-                0x00, 0x41, 0x01, 0x41, 0x01, 0x10, 0x01, 0x1A, 0x42, 0x00, 0x0B,
-            ],
+            0,
+            b"",
+            0,
+            b"",
+            b"\x00\x41\x01\x41\x01\x10\x01\x1A\x42\x00\x0B",
             "6 None",
         ),
         (
-            &[],
-            &[
-                0x00, 0x03, 0x40, 0x01, 0x41, 0x01, 0x41, 0x04, 0x10, 0x01, 0x1A, 0x0B, 0x42, 0x00,
-                0x0B,
-            ],
+            0,
+            b"",
+            0,
+            b"",
+            b"\x00\x03\x40\x01\x41\x01\x41\x04\x10\x01\x1A\x0B\x42\x00\x0B",
             "Rule(LoopWithoutGuard { func: 0, op: 0 })",
         ),
         (
-            &[],
-            &[0x00, 0x42, 0x00, 0x1A, 0x0B],
+            0,
+            b"",
+            0,
+            b"",
+            b"\x00\x42\x00\x1A\x0B",
             "Untyped { func: 0, op: 2 }",
         ),
     ];
-    for (given, body, text) in rows {
-        let code = code_of(rt.alloc(), given, body)?;
-        let found = shown(rt.alloc(), &code)?;
-        assert_eq!(rt; found.as_str(), text);
-    }
+    assert_eq!(rt; right_rows(rt.alloc(), &rows)?, 9);
     Ok(())
 }
 
 #[test]
 fn the_first_kind_at_its_least_place(rt: HostRuntime) -> Result<(), Fail> {
-    let rows: [(&[Section<'_>], &[u8], &str); 8] = [
-        // a float in the code, and a bad import before it
+    let rows: [Row<'_>; 8] = [
         (
-            &[(
-                2,
-                &[0x01, 0x03, 0x65, 0x6E, 0x77, 0x02, 0x5F, 0x67, 0x00, 0x02],
-            )],
-            &[0x00, 0x00, 0x8C, 0x0B],
+            2,
+            b"\x01\x03\x65\x6E\x77\x02\x5F\x67\x00\x02",
+            0,
+            b"",
+            b"\x00\x00\x8C\x0B",
             "Rule(FloatCode { func: 0, op: 1 })",
         ),
-        // a start and no export
-        (&[(7, &[0x00]), (8, &[0x02])], &PLAIN, "Rule(BadExport)"),
+        (7, b"\x00", 8, b"\x02", PLAIN, "Rule(BadExport)"),
         (
-            &[
-                (5, &[0x01, 0x00, 0x11]),
-                (4, &[0x02, 0x70, 0x00, 0x00, 0x70, 0x00, 0x00]),
-            ],
-            &PLAIN,
+            5,
+            b"\x01\x00\x11",
+            4,
+            b"\x02\x70\x00\x00\x70\x00\x00",
+            PLAIN,
             "Rule(BadTable)",
         ),
-        // two bad globals, two bad segments
         (
-            &[(
-                6,
-                &[
-                    0x02, 0x7E, 0x01, 0x41, 0x00, 0x0B, 0x7E, 0x01, 0x41, 0x00, 0x0B,
-                ],
-            )],
-            &PLAIN,
+            6,
+            b"\x02\x7E\x01\x41\x00\x0B\x7E\x01\x41\x00\x0B",
+            0,
+            b"",
+            PLAIN,
             "Rule(BadGlobal { index: 0 })",
         ),
         (
-            &[(
-                11,
-                &[
-                    0x02, 0x01, 0x41, 0x00, 0x0B, 0x00, 0x01, 0x41, 0x00, 0x0B, 0x00,
-                ],
-            )],
-            &PLAIN,
+            11,
+            b"\x02\x01\x41\x00\x0B\x00\x01\x41\x00\x0B\x00",
+            0,
+            b"",
+            PLAIN,
             "Rule(BadData { index: 0 })",
         ),
-        // growth before an indirect call, and twice
         (
-            &[],
-            &[0x00, 0x41, 0x00, 0x40, 0x00, 0x11, 0x00, 0x00, 0x0B],
+            0,
+            b"",
+            0,
+            b"",
+            b"\x00\x41\x00\x40\x00\x11\x00\x00\x0B",
             "Rule(IndirectCall { func: 0, op: 2 })",
         ),
         (
-            &[],
-            &[0x00, 0x41, 0x00, 0x40, 0x00, 0x40, 0x00, 0x0B],
+            0,
+            b"",
+            0,
+            b"",
+            b"\x00\x41\x00\x40\x00\x40\x00\x0B",
             "Rule(Grow { func: 0, op: 1 })",
         ),
-        // a loop without guard in front of a guard without constants
         (
-            &[],
-            &[0x00, 0x03, 0x40, 0x10, 0x01, 0x0B, 0x42, 0x00, 0x0B],
+            0,
+            b"",
+            0,
+            b"",
+            b"\x00\x03\x40\x10\x01\x0B\x42\x00\x0B",
             "Rule(GuardNotConstant { func: 0, op: 1 })",
         ),
     ];
-    for (given, body, text) in rows {
-        let code = code_of(rt.alloc(), given, body)?;
-        let found = shown(rt.alloc(), &code)?;
-        assert_eq!(rt; found.as_str(), text);
-    }
+    assert_eq!(rt; right_rows(rt.alloc(), &rows)?, 8);
     Ok(())
 }
 
 #[test]
 fn bounds_of_bodies(rt: HostRuntime) -> Result<(), Fail> {
-    let rows: [(&[u8], &str); 7] = [
-        // the pass that is refused
+    let rows: [Row<'_>; 7] = [
         (
-            &[
-                0x00, 0x03, 0x40, 0x41, 0x01, 0x41, 0x04, 0x10, 0x01, 0x1A, 0x0C, 0x00, 0x0B, 0x42,
-                0x00, 0x0B,
-            ],
+            0,
+            b"",
+            0,
+            b"",
+            b"\x00\x03\x40\x41\x01\x41\x04\x10\x01\x1A\x0C\x00\x0B\x42\x00\x0B",
             "30 None",
         ),
-        // nothing allowed
         (
-            &[
-                0x00, 0x03, 0x40, 0x41, 0x01, 0x41, 0x00, 0x10, 0x01, 0x1A, 0x0C, 0x00, 0x0B, 0x42,
-                0x00, 0x0B,
-            ],
+            0,
+            b"",
+            0,
+            b"",
+            b"\x00\x03\x40\x41\x01\x41\x00\x10\x01\x1A\x0C\x00\x0B\x42\x00\x0B",
             "6 None",
         ),
-        // three nested loops
         (
-            &[
-                0x00, 0x03, 0x40, 0x41, 0x01, 0x41, 0x02, 0x10, 0x01, 0x1A, 0x03, 0x40, 0x41, 0x02,
-                0x41, 0x03, 0x10, 0x01, 0x1A, 0x03, 0x40, 0x41, 0x03, 0x41, 0x04, 0x10, 0x01, 0x1A,
-                0x0B, 0x0B, 0x0B, 0x42, 0x00, 0x0B,
-            ],
+            0,
+            b"",
+            0,
+            b"",
+            b"\x00\x03\x40\x41\x01\x41\x02\x10\x01\x1A\x03\x40\x41\x02\x41\x03\x10\x01\x1A\x03\x40\x41\x03\x41\x04\x10\x01\x1A\x0B\x0B\x0B\x42\x00\x0B",
             "56 None",
         ),
-        // both arms, and no `else`
         (
-            &[
-                0x00, 0x20, 0x00, 0x04, 0x7E, 0x42, 0x01, 0x05, 0x42, 0x02, 0x0B, 0x0B,
-            ],
+            0,
+            b"",
+            0,
+            b"",
+            b"\x00\x20\x00\x04\x7E\x42\x01\x05\x42\x02\x0B\x0B",
             "6 None",
         ),
-        // at the limit, past it, and the greatest limit of a guard
         (
-            &[
-                0x00, 0x03, 0x40, 0x41, 0x01, 0x41, 0xA9, 0xD5, 0x00, 0x10, 0x01, 0x1A, 0x0C, 0x00,
-                0x0B, 0x01, 0x01, 0x01, 0x42, 0x00, 0x0B,
-            ],
+            0,
+            b"",
+            0,
+            b"",
+            b"\x00\x03\x40\x41\x01\x41\xA9\xD5\x00\x10\x01\x1A\x0C\x00\x0B\x01\x01\x01\x42\x00\x0B",
             "65535 None",
         ),
         (
-            &[
-                0x00, 0x03, 0x40, 0x41, 0x01, 0x41, 0xA9, 0xD5, 0x00, 0x10, 0x01, 0x1A, 0x0C, 0x00,
-                0x0B, 0x01, 0x01, 0x01, 0x01, 0x42, 0x00, 0x0B,
-            ],
+            0,
+            b"",
+            0,
+            b"",
+            b"\x00\x03\x40\x41\x01\x41\xA9\xD5\x00\x10\x01\x1A\x0C\x00\x0B\x01\x01\x01\x01\x42\x00\x0B",
             "BoundTooLarge { export: Hook, bound: 65536 }",
         ),
         (
-            &[
-                0x00, 0x03, 0x40, 0x41, 0x01, 0x41, 0x7F, 0x10, 0x01, 0x1A, 0x0C, 0x00, 0x0B, 0x42,
-                0x00, 0x0B,
-            ],
+            0,
+            b"",
+            0,
+            b"",
+            b"\x00\x03\x40\x41\x01\x41\x7F\x10\x01\x1A\x0C\x00\x0B\x42\x00\x0B",
             "BoundTooLarge { export: Hook, bound: 25769803776 }",
         ),
     ];
-    for (body, text) in rows {
-        let code = code_of(rt.alloc(), &[], body)?;
-        let found = shown(rt.alloc(), &code)?;
-        assert_eq!(rt; found.as_str(), text);
-    }
+    assert_eq!(rt; right_rows(rt.alloc(), &rows)?, 7);
     Ok(())
 }
 
-/// Two functions, exported as `hook` and `cbak`, with these limits of their one loop, below 64.
-fn with_cbak(alloc: Global, limits: [u8; 2]) -> Result<Vec<u8>, NoMemory> {
-    let [hook, cbak] = limits;
-    let bodies = [
-        0x02, 0x10, 0x00, 0x03, 0x40, 0x41, 0x01, 0x41, hook, 0x10, 0x01, 0x1A, 0x0C, 0x00, 0x0B,
-        0x42, 0x00, 0x0B, 0x10, 0x00, 0x03, 0x40, 0x41, 0x01, 0x41, cbak, 0x10, 0x01, 0x1A, 0x0C,
-        0x00, 0x0B, 0x42, 0x00, 0x0B,
-    ];
-    let exports = [
-        0x02, 0x04, 0x63, 0x62, 0x61, 0x6B, 0x00, 0x03, 0x04, 0x68, 0x6F, 0x6F, 0x6B, 0x00, 0x02,
-    ];
-    code_of(
-        alloc,
-        &[(3, &[0x02, 0x00, 0x00]), (7, &exports), (10, &bodies)],
-        &PLAIN,
-    )
+/// Two functions, exported as `cbak` and `hook`, with these limits of their one loop, below 64 or 127 for the greatest.
+fn with_cbak(alloc: Global, hook: u8, cbak: u8) -> Result<Vec<u8>, NoMemory> {
+    let mut bodies = Vec::from_slice(alloc, b"\x02\x10\x00\x03\x40\x41\x01\x41")?;
+    bodies.push(hook)?;
+    bodies.extend_from_slice(b"\x10\x01\x1A\x0C\x00\x0B\x42\x00\x0B\x10\x00\x03\x40\x41\x01\x41")?;
+    bodies.push(cbak)?;
+    bodies.extend_from_slice(b"\x10\x01\x1A\x0C\x00\x0B\x42\x00\x0B")?;
+    let mut code = Vec::from_slice(alloc, HEADER)?;
+    put(&mut code, 1, TYPES)?;
+    put(&mut code, 2, IMPORTS)?;
+    put(&mut code, 3, b"\x02\x00\x00")?;
+    put(&mut code, 7, b"\x02\x04cbak\x00\x03\x04hook\x00\x02")?;
+    put(&mut code, 10, &bodies)?;
+    Ok(code)
 }
 
 #[test]
 fn hook_before_cbak(rt: HostRuntime) -> Result<(), Fail> {
     let rows = [
-        ([0x01, 0x02], "12 Some(18)"),
+        (0x01, 0x02, "12 Some(18)"),
         (
-            [0x02, 0x7F],
+            0x02,
+            0x7F,
             "BoundTooLarge { export: Cbak, bound: 25769803776 }",
         ),
         (
-            [0x7F, 0x7F],
+            0x7F,
+            0x7F,
             "BoundTooLarge { export: Hook, bound: 25769803776 }",
         ),
     ];
-    for (limits, text) in rows {
-        let code = with_cbak(rt.alloc(), limits)?;
+    for (hook, cbak, text) in rows {
+        let code = with_cbak(rt.alloc(), hook, cbak)?;
         let found = shown(rt.alloc(), &code)?;
         assert_eq!(rt; found.as_str(), text);
     }
     Ok(())
 }
 
+const NESTED: &[u8] =
+    b"\x00\x03\x40\x41\x01\x41\x02\x10\x01\x1A\x03\x40\x41\x7F\x41\x03\x10\x01\x1A\x0B\x0B\x42\x00\x0B";
+
+const NESTED_GUARDS: &str =
+    "Guards { hook: 0, cbak: None, imports: Items { items: [CallNo(1), CallNo(0)] }, \
+    functions: Items { items: [FunctionGuards { loops: Items { items: [LoopGuard { op: 0, id: 1, limit: 2 }, \
+    LoopGuard { op: 5, id: 4294967295, limit: 3 }] }, innermost: Items { items: [None, Some(0), Some(0), Some(0), Some(0), \
+    Some(0), Some(1), Some(1), Some(1), Some(1), Some(1), Some(0), None, None] } }] } }";
+
 #[test]
 fn what_is_kept(rt: HostRuntime) -> Result<(), Fail> {
-    let body = [
-        0x00, 0x03, 0x40, 0x41, 0x01, 0x41, 0x02, 0x10, 0x01, 0x1A, 0x03, 0x40, 0x41, 0x7F, 0x41,
-        0x03, 0x10, 0x01, 0x1A, 0x0B, 0x0B, 0x42, 0x00, 0x0B,
-    ];
-    let code = code_of(rt.alloc(), &[], &body)?;
+    let code = code_of(rt.alloc(), &(0, b"", 0, b"", NESTED, ""))?;
     let Ok(checked) = check(rt.alloc(), &code) else {
         panic!(rt; "refused");
     };
     let guards = format!(in rt.alloc(); "{:?}", checked.guards())?;
-    assert_eq!(rt;
-        guards.as_str(),
-        "Guards { hook: 0, cbak: None, imports: Items { items: [CallNo(1), CallNo(0)] }, \
-        functions: Items { items: [FunctionGuards { loops: Items { items: [LoopGuard { op: 0, id: 1, limit: 2 }, \
-        LoopGuard { op: 5, id: 4294967295, limit: 3 }] }, innermost: Items { items: [None, Some(0), Some(0), Some(0), Some(0), \
-        Some(0), Some(1), Some(1), Some(1), Some(1), Some(1), Some(0), None, None] } }] } }"
-    );
+    assert_eq!(rt; guards.as_str(), NESTED_GUARDS);
     assert_eq!(rt; checked.hash(), sha512half(&code));
     assert_eq!(rt; checked.typed().depths.len(), 1);
     assert_eq!(rt; checked.module().codes.len(), 1);
@@ -597,7 +635,7 @@ fn length_and_spelling(rt: HostRuntime) -> Result<(), Fail> {
     let long = vec![in rt.alloc(); 0u8; 65536]?;
     assert_eq!(rt; shown(rt.alloc(), &long)?.as_str(), "TooLong");
     assert_eq!(rt; shown(rt.alloc(), &long[..65535])?.as_str(), "Malformed");
-    let code = code_of(rt.alloc(), &[], &PLAIN)?;
+    let code = code_of(rt.alloc(), &(0, b"", 0, b"", PLAIN, ""))?;
     assert_eq!(rt; shown(rt.alloc(), &code)?.as_str(), "2 None");
     assert_eq!(rt; shown(rt.alloc(), &code[1..])?.as_str(), "Malformed");
     Ok(())

@@ -11,6 +11,8 @@ mod native;
 mod overlay;
 mod replay;
 mod report;
+#[cfg(test)]
+mod tests;
 mod transactions;
 mod transactor;
 mod world;

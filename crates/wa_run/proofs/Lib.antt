@@ -13,3 +13,4 @@ pub mod Accesses
 pub mod Told
 pub mod Starting
 pub mod Sampling
+pub mod Beginning

@@ -1,8 +1,9 @@
 -- What a run begins with, and what its ending is.
-use Rattle.std.specs.Prelude.{ℕ, ◌≡◌, ◌*◌, ◌^◌, ◌<◌, ◌≤◌, List, [], ◌∷◌, Some, true, length, map, replicate, fold}
+use Rattle.std.specs.Prelude.{ℕ, ◌≡◌, ◌*◌, ◌^◌, ◌<◌, ◌≤◌, List, [], ◌∷◌, Some, true, false, length, map, replicate, fold}
 use Rattle.std.specs.Int.{cast_unsigned, w32, w64}
 use Rattle.wa_num.specs.Memory.{written}
-use Rattle.wa_ops.specs.HookRules.{address_of}
+use Rattle.wa_ops.specs.Contexts.{global_types}
+use Rattle.wa_ops.specs.HookRules.{address_of, is_constant_of, is_float, is_one}
 use Rattle.wa_ops.specs.declared.modules.ModuleGlobal.{ModuleGlobal}
 use Rattle.wa_ops.specs.declared.modules.Segment.{Segment}
 use Rattle.wa_ops.specs.declared.op.Op.TheVariants as op
@@ -14,9 +15,10 @@ use Rattle.wa_ops.specs.Soundness.{Each, IsSoundOp}
 use Rattle.wa_ops.specs.Typing.{Context, IsTyped}
 use Rattle.wa_ops.specs.declared.call_no.CallNo.{CallNo}
 use Rattle.wa_ops.specs.declared.op.Op.{Op}
-use Rattle.wa_ops.specs.declared.op.ValueType.TheVariants.{I64}
+use Rattle.wa_ops.specs.declared.op.ValueType.TheVariants.{I32, I64}
+use Rattle.wa_ops.specs.declared.op.ValueType.{ValueType}
 use Rattle.wa_machine.specs.Law.{types_of, kinds_of}
-use Rattle.wa_machine.specs.Machine.{Value, Configuration, World, HostMeaning, start, Ends}
+use Rattle.wa_machine.specs.Machine.{Value, word32, value_of, Configuration, World, HostMeaning, start, Ends}
 use Rattle.wa_run.specs.Calls.{AreRows, callees_of}
 use Rattle.wa_run.specs.Flat.{words_of, AllValues}
 use Rattle.wa_run.specs.declared.label.Label.{Label}
@@ -118,3 +120,40 @@ with_segments memory segments = fold (λ bytes segment. written bytes (first_pla
 
 abbrev pub first_memory : ℕ → List Segment → List ℕ
 first_memory pages segments = with_segments (replicate (pages * 65536) 0) segments
+
+-- ---- the typed values that a run begins with
+
+-- the constant that an expression begins with is of its width
+abbrev pub HasWidth : List Op → Type 0
+HasWidth (op.I32Const n ∷ ops) = cast_unsigned w32 n < 2 ^ 32
+HasWidth (op.I64Const n ∷ ops) = cast_unsigned w64 n < 2 ^ 64
+HasWidth ops = Unit {0}
+
+abbrev pub zeros : List ValueType → List Value
+zeros [] = []
+zeros (kind ∷ kinds) = value_of kind 0 ∷ zeros kinds
+
+-- the argument, and zeros of the other locals' types
+abbrev pub start_locals : ℕ → List ValueType → List Value
+start_locals argument kinds = word32 argument ∷ zeros kinds
+
+-- the globals' constants
+abbrev pub start_globals : List ModuleGlobal → List Value
+start_globals [] = []
+start_globals (global ∷ globals) = value_of global.kind (first_word global.init) ∷ start_globals globals
+
+-- values of these types, which these words are
+pub record AreValues (values : List Value) (types : List ValueType) (words : List ℕ) : Type 0 where
+  pub types_are : types_of values ≡ types
+  pub words_are : words ≡ words_of values
+  pub fit : AllValues values
+
+-- locals that are no floats begin as values of their types
+abbrev pub LocalsBegin : Type 0
+LocalsBegin = (argument : ℕ) (kinds : List ValueType) → argument < 2 ^ 32 → Each (λ kind. is_float kind ≡ false) kinds →
+    AreValues (start_locals argument kinds) (I32 ∷ kinds) (first_locals argument (length kinds))
+
+-- globals that begin as one constant of their type do so too
+abbrev pub GlobalsBegin : Type 0
+GlobalsBegin = (globals : List ModuleGlobal) → Each (λ global. is_one (is_constant_of global.kind) global.init ≡ true) globals → Each (λ global. HasWidth global.init) globals →
+    AreValues (start_globals globals) (kinds_of (global_types globals)) (first_globals globals)

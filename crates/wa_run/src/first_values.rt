@@ -1,6 +1,7 @@
 //! The values that a run begins with.
-ghost use Rattle.std.specs.Prelude.{◌*◌, ◌<◌, ◌≡◌, ◌≤◌, ◌^◌, length, IfOk};
-ghost use Rattle.wa_run.specs.Starts.{constant_word, first_globals, first_locals, first_memory, first_place, first_word};
+ghost use Rattle.std.specs.Prelude.{◌*◌, ◌<◌, ◌≡◌, ◌≤◌, ◌^◌, length, IfOk, OnOk};
+ghost use Rattle.wa_ops.specs.Soundness.{Each};
+ghost use Rattle.wa_run.specs.Starts.{GlobalsBegin, HasWidth, LocalsBegin, constant_word, first_globals, first_locals, first_memory, first_place, first_word};
 ghost use Rattle.wa_ops.specs.HookRules.{address_of};
 
 use std::alloc::Global;
@@ -20,6 +21,7 @@ pub(crate) fn first_locals(alloc: Global, argument: u32, count: u32) -> Result<V
 /// The constants of the globals.
 pub(crate) fn first_globals(alloc: Global, globals: &[ModuleGlobal]) -> Result<Vec<u64>, NoMemory>
     ensures globals { IfOk result (λ words. words.items ≡ first_globals globals.now) }
+    ensures width { OnOk result (Each (λ global. HasWidth global.init) globals.now) }
 {
     let mut words = Vec::with_capacity(alloc, globals.len())?;
     for global in globals {
@@ -51,6 +53,7 @@ pub(crate) fn first_memory(
 /// The number of the constant that an expression begins with.
 fn first_word(ops: &[Op]) -> u64
     ensures word { result ≡ first_word ops.now }
+    ensures width { HasWidth ops.now }
 {
     match ops {
         [Op::I32Const(number), ..] => u64::from(number.cast_unsigned()),
@@ -68,3 +71,9 @@ fn first_place(ops: &[Op]) -> u32
         _ => 0,
     }
 }
+
+/// The law that what a run begins with are values of the types of its locals and globals.
+pub fn values_begin()
+    ensures locals { LocalsBegin }
+    ensures globals { GlobalsBegin }
+{}

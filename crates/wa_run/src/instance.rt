@@ -1,9 +1,10 @@
 //! A run of one function of a hook.
-ghost use Rattle.std.specs.Prelude.{◌<◌, ◌≡◌, ◌≤◌, IfOk, IsErr, IsTrue};
+ghost use Rattle.std.specs.Prelude.{◌<◌, ◌≡◌, ◌≤◌, IfOk, IsErr, IsTrue, OnOk};
 ghost use Rattle.wa_machine.specs.Law.{EndsWithin};
 ghost use Rattle.wa_ops.specs.Bound.{bound};
+ghost use Rattle.wa_ops.specs.Soundness.{Each};
 ghost use Rattle.wa_run.specs.Calls.{meaning_of};
-ghost use Rattle.wa_run.specs.Starts.{CanRun, EndsSo, Function, first_globals, first_locals, first_memory, first_of, world_of};
+ghost use Rattle.wa_run.specs.Starts.{CanRun, EndsSo, Function, HasWidth, first_globals, first_locals, first_memory, first_of, world_of};
 
 use crate::ended::{Ended, outcome};
 use crate::first_values::{first_globals, first_locals, first_memory};
@@ -68,6 +69,7 @@ impl Instance {
         requires pages { pages ≤ 16 }
         ensures locals { IfOk result (λ instance. instance.locals ≡ first_locals argument locals) }
         ensures globals { IfOk result (λ instance. instance.globals ≡ first_globals globals.now) }
+        ensures width { OnOk result (Each (λ global. HasWidth global.init) globals.now) }
         ensures memory { IfOk result (λ instance. instance.memory ≡ first_memory pages segments.now) }
         ensures words_room { IfOk result (λ instance. bound ≤ instance.words_room) }
         ensures labels_room { IfOk result (λ instance. bound < instance.labels_room) }

@@ -20,4 +20,5 @@ mod turns;
 mod words;
 
 pub use ended::Ended;
+pub use first_values::values_begin;
 pub use instance::Instance;
