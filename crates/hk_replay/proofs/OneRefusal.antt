@@ -1,16 +1,15 @@
 -- A code is refused in one way, and not where it is accepted.
-use Rattle.std.proofs.Common.{◌≡◌, ◌≢◌, ℕ, ◌+◌, ◌<◌, ◌≤◌, ◌⊎◌, inl, inr, Bool, true, false, List, [], ◌∷◌, length, Option, Some, None, ap, sym, subst, ◌∙◌, refl, arith, if◌then◌else◌}
+use Rattle.std.proofs.Common.{◌≡◌, ◌≢◌, ℕ, ◌+◌, ◌<◌, ◌≤◌, ◌⊎◌, inl, inr, Bool, true, false, List, [], ◌∷◌, length, Option, Some, ap, sym, subst, ◌∙◌, refl, arith, if◌then◌else◌}
 use Rattle.std.proofs.lemmas.Bool.Decides.{leb_tells}
 use Rattle.wa_decode.proofs.ModuleReaders.{one_module}
-use Rattle.wa_decode.specs.Modules.{Spells}
 use Rattle.wa_ops.specs.declared.modules.Module.{Module}
 use Rattle.wa_ops.specs.declared.modules.ModuleExport.{ModuleExport}
 use Rattle.wa_ops.specs.declared.op.ValueType.{ValueType}
 use Rattle.wa_ops.specs.declared.rule_fault.RuleFault.{RuleFault}
 use Rattle.wa_ops.specs.Contexts.{context_of}
-use Rattle.wa_ops.specs.HookRules.{Rule, Precedes, IsLeast, IsFirst, AreKept, IsRuled, hook_rules, is_hook, is_cbak}
+use Rattle.wa_ops.specs.HookRules.{Rule, IsLeast, IsFirst, AreKept, IsRuled, hook_rules, is_hook, is_cbak}
 use Rattle.wa_ops.specs.Sequences.{Sequence, size}
-use Rattle.wa_ops.specs.Typing.{Typing, leaves, fails, fresh, types, after_region, Leaves, IsTyped}
+use Rattle.wa_ops.specs.Typing.{Typing, leaves, fails, fresh, types, after_region, Leaves}
 use Rattle.wa_validate.specs.Untyped.{IsUntyped, IsTypedAt, body_of, body_typing}
 use Rattle.hk_bound.specs.Bounds.{export_bound}
 use Rattle.hk_bound.specs.Checks.{most, IsSpelled, AllTyped, IsWithin, IsPast, IsHook, Held, Holds, IsRefused}

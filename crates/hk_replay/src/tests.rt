@@ -6,19 +6,10 @@ use hk_base::{HonestSink, HonestSource, MemSink, MemSource, NoMemory, Sink, Sink
 use std::alloc::Global;
 use std::test::Fail;
 
-// The bytes before the code section: the import of `accept`, and the export `hook`.
-const HEAD: &str =
-    "0061736d01000000010d0260017f017e60037f7f7e017e020e0103656e76066163636570740001030201000708\
-0104686f6f6b0001";
-
 // A hook that accepts with an empty text.
-const ACCEPTS: &str = "0a0c010a0041004100420010000b";
-
-// The same with a text of no bytes at 1, which is outside the memory.
-const OUTSIDE: &str = "0a0c010a0041014100420010000b";
-
-// A hook that ends with a number of 32 bits.
-const UNTYPED: &str = "0a0601040041000b";
+const ACCEPTS: &str =
+    "0061736d01000000010d0260017f017e60037f7f7e017e020e0103656e76066163636570740001030201000708\
+0104686f6f6b00010a0c010a0041004100420010000b";
 
 fn words_of(alloc: Global, words: &[&str]) -> Result<Vec<String>, NoMemory> {
     let mut list = Vec::new(alloc);
@@ -67,21 +58,187 @@ fn in_pieces(
 }
 
 #[test]
-fn hooks_run_to_their_printed_endings(rt: HostRuntime) -> Result<(), Fail> {
+fn hooks_are_answered_by_their_code(rt: HostRuntime) -> Result<(), Fail> {
     let alloc = rt.alloc();
     let rows = [
-        (ACCEPTS, Status::Done, "accepted 0 - count 4 bound 5\n"),
-        (OUTSIDE, Status::Done, "returned -1 count 5 bound 5\n"),
-        (UNTYPED, Status::HookRefused, "refused not yet\n"),
-        ("", Status::HookRefused, "refused not yet\n"),
+        (
+            "run",
+            "0061736d01000000010d0260017f017e60037f7f7e017e020e0103656e760661636365707400010302010007080104686f6f6b00010a0c010a0041004100420010000b",
+            Status::Done,
+            "accepted 0 - count 4 bound 5\n",
+        ),
+        (
+            "check",
+            "0061736d01000000010d0260017f017e60037f7f7e017e020e0103656e760661636365707400010302010007080104686f6f6b00010a0c010a0041004100420010000b",
+            Status::Done,
+            "ok 05be6c6ad48411da51b18d576bd9e9c90d8bbd6a7a6e08a6c67d4a8ebf183da3 hook 5 cbak -\n",
+        ),
+        (
+            "run",
+            "0061736d01000000010d0260017f017e60037f7f7e017e020e0103656e760661636365707400010302010007080104686f6f6b00010a0c010a0041014100420010000b",
+            Status::Done,
+            "returned -1 count 5 bound 5\n",
+        ),
+        (
+            "run",
+            "0061736d01000000010d0260017f017e60037f7f7e017e020e0103656e760661636365707400010302010007080104686f6f6b00010a0c010a004100410042001000",
+            Status::HookRefused,
+            "refused malformed\n",
+        ),
+        (
+            "check",
+            "0061736d01000000010d0260017f017e60037f7f7e017e020e0103656e760661636365707400010302010007080104686f6f6b00010a0c010a0041004100420010000b00",
+            Status::HookRefused,
+            "refused malformed\n",
+        ),
+        (
+            "run",
+            "0061736d01000000010d0260017f017e60037f7f7e017e020e0103656e760661636365707400010302010007080104686f6f6b00010a10010e004180808080004100420010000b",
+            Status::Done,
+            "accepted 0 - count 4 bound 5\n",
+        ),
+        (
+            "run",
+            "0061736d01000000010d0260017f017e60037f7f7e017e02100103656e7608726f6c6c6261636b00010302010007080104686f6f6b00010a0c010a0041004100420710000b",
+            Status::Done,
+            "rolledback 7 - count 4 bound 5\n",
+        ),
+        (
+            "run",
+            "0061736d0100000001130360017f017e60027f7f017f60037f7f7e017e02260303656e76025f67000103656e7606616363657074000203656e7608726f6c6c6261636b0002030201000503010001071102066d656d6f7279020004686f6f6b00030a1201100003404101410410001a0c000b42000b",
+            Status::Done,
+            "guard 1 4 count 24 bound 30\n",
+        ),
+        (
+            "run",
+            "0061736d0100000001130360017f017e60027f7f017f60037f7f7e017e02260303656e76025f67000103656e7606616363657074000203656e7608726f6c6c6261636b0002030201000503010001071102066d656d6f7279020004686f6f6b00030a1201100003404101410010001a0c000b42000b",
+            Status::Done,
+            "guard 1 0 count 4 bound 6\n",
+        ),
+        (
+            "run",
+            "0061736d0100000001130360017f017e60027f7f017f60037f7f7e017e02260303656e76025f67000103656e7606616363657074000203656e7608726f6c6c6261636b0002030201000503010001071102066d656d6f7279020004686f6f6b00030a1c011a0003404101410510001a0b03404101410910001a0c000b42000b",
+            Status::Done,
+            "guard 1 9 count 50 bound 86\n",
+        ),
+        (
+            "run",
+            "0061736d0100000001130360017f017e60027f7f017f60037f7f7e017e02260303656e76025f67000103656e7606616363657074000203656e7608726f6c6c6261636b0002030201000503010001071102066d656d6f7279020004686f6f6b00030a1c011a0003404101410310001a03404102410210001a0b0c000b42000b",
+            Status::Done,
+            "guard 2 2 count 31 bound 37\n",
+        ),
+        (
+            "run",
+            "0061736d0100000001130360017f017e60027f7f017f60037f7f7e017e02260303656e76025f67000103656e7606616363657074000203656e7608726f6c6c6261636b0002030201000503010001071102066d656d6f7279020004686f6f6b00030a190117004101410210001a03404101410210001a0c000b42000b",
+            Status::Done,
+            "guard 1 2 count 13 bound 22\n",
+        ),
+        (
+            "run",
+            "0061736d0100000001130360017f017e60027f7f017f60037f7f7e017e02260303656e76025f67000103656e7606616363657074000203656e7608726f6c6c6261636b0002030201000503010001071102066d656d6f7279020004686f6f6b00030a190117004101410210001a03404101410010001a0c000b42000b",
+            Status::Done,
+            "guard 1 0 count 8 bound 10\n",
+        ),
+        (
+            "check",
+            "0061736d0100000001130360017f017e60027f7f017f60037f7f7e017e02260303656e76025f67000103656e7606616363657074000203656e7608726f6c6c6261636b0002030201000503010001071102066d656d6f7279020004686f6f6b00030a11010f000340014101410410001a0b42000b",
+            Status::HookRefused,
+            "refused loop guard 0 0\n",
+        ),
+        (
+            "run",
+            "0061736d0100000001130360017f017e60027f7f017f60037f7f7e017e02260303656e76025f67000103656e7606616363657074000203656e7608726f6c6c6261636b0002030201000503010001071102066d656d6f7279020004686f6f6b00030a11010f000340014101410410001a0b42000b",
+            Status::HookRefused,
+            "refused loop guard 0 0\n",
+        ),
+        (
+            "check",
+            "0061736d0100000001130360017f017e60027f7f017f60037f7f7e017e02260303656e76025f67000103656e7606616363657074000203656e7608726f6c6c6261636b0002030201000503010001071102066d656d6f7279020004686f6f6b00030a0d010b000043000000001a42000b",
+            Status::HookRefused,
+            "refused float code 0 1\n",
+        ),
+        (
+            "run",
+            "0061736d0100000001130360017f017e60027f7f017f60037f7f7e017e02260303656e76025f67000103656e7606616363657074000203656e7608726f6c6c6261636b0002030201000503010001071102066d656d6f7279020004686f6f6b00030a10010e00418080808078417f6d1a42000b",
+            Status::Done,
+            "trapped divide_overflow count 3 bound 6\n",
+        ),
+        (
+            "run",
+            "0061736d0100000001130360017f017e60027f7f017f60037f7f7e017e02260303656e76025f67000103656e7606616363657074000203656e7608726f6c6c6261636b0002030201000503010001071102066d656d6f7279020004686f6f6b00030a0e010c00418080808078417f6fac0b",
+            Status::Done,
+            "returned 0 count 5 bound 5\n",
+        ),
+        (
+            "run",
+            "0061736d0100000001130360017f017e60027f7f017f60037f7f7e017e02260303656e76025f67000103656e7606616363657074000203656e7608726f6c6c6261636b0002030201000503010001071102066d656d6f7279020004686f6f6b00030a0e010c0041fdff032800001a42000b",
+            Status::Done,
+            "trapped memory count 2 bound 5\n",
+        ),
+        (
+            "run",
+            "0061736d0100000001130360017f017e60027f7f017f60037f7f7e017e02260303656e76025f67000103656e7606616363657074000203656e7608726f6c6c6261636b0002030201000503010001071102066d656d6f7279020004686f6f6b00030a0e010c0041fcff032800001a42000b",
+            Status::Done,
+            "returned 0 count 5 bound 5\n",
+        ),
+        (
+            "check",
+            "0061736d0100000001130360017f017e60027f7f017f60037f7f7e017e02260303656e76025f67000103656e7606616363657074000203656e7608726f6c6c6261636b0002030201000503010001071102066d656d6f7279020004686f6f6b00030a170115000340410141a9d50010001a0c000b01010142000b",
+            Status::Done,
+            "ok ecd070d4799258013c6dc3115d8d758862aad14964025dc71888705ac3bc0091 hook 65535 cbak -\n",
+        ),
+        (
+            "check",
+            "0061736d0100000001130360017f017e60027f7f017f60037f7f7e017e02260303656e76025f67000103656e7606616363657074000203656e7608726f6c6c6261636b0002030201000503010001071102066d656d6f7279020004686f6f6b00030a180116000340410141a9d50010001a0c000b0101010142000b",
+            Status::HookRefused,
+            "refused bound hook 65536\n",
+        ),
+        (
+            "check",
+            "0061736d0100000001130360017f017e60027f7f017f60037f7f7e017e02260303656e76025f67000103656e7606616363657074000203656e7608726f6c6c6261636b0002030201000503010001071803066d656d6f7279020004686f6f6b0003046362616b00030a0c010a0041004100420010010b",
+            Status::Done,
+            "ok 550a7d2354d511cfc33b553975b39eb6fe3862a913f848221b7c33bc4f4a6bd0 hook 5 cbak 5\n",
+        ),
+        (
+            "check",
+            "0061736d0100000001130360017f017e60027f7f017f60037f7f7e017e02260303656e76025f67000103656e7606616363657074000203656e7608726f6c6c6261636b0002030201000503010001071102066d656d6f7279020004686f6f6b00030a0601040041000b",
+            Status::HookRefused,
+            "refused untyped 0 1\n",
+        ),
+        (
+            "check",
+            "0061736d0100000001130360017f017e60027f7f017f60037f7f7e017e02260303656e76025f67000103656e7606616363657074000203656e7608726f6c6c6261636b0002030201000503010001071202066d656d6f7279020005686f6f6b7300030a0601040042000b",
+            Status::HookRefused,
+            "refused export\n",
+        ),
+        ("run", "00", Status::HookRefused, "refused malformed\n"),
     ];
-    for (code, status, text) in rows {
-        let input = format!(in alloc; "# a hook\n\nhook {HEAD}{code}\r\nend")?;
-        for piece in [1usize, 7, 64, 500] {
-            let (answer, sink) = in_pieces(alloc, "run", input.as_bytes(), piece)?;
-            assert_eq!(rt; answer, status);
-            assert_eq!(rt; sink.written(), text.as_bytes());
+    for (word, code, status, text) in rows {
+        let input = format!(in alloc; "# a hook\n\nhook {code}\r\nend")?;
+        for piece in [7usize, 4096] {
+            let (answer, sink) = in_pieces(alloc, word, input.as_bytes(), piece)?;
+            assert_eq!(rt; answer, status, "at {code}");
+            assert_eq!(rt; sink.written(), text.as_bytes(), "at {code}");
         }
+    }
+    Ok(())
+}
+
+#[test]
+fn long_codes_are_refused(rt: HostRuntime) -> Result<(), Fail> {
+    let alloc = rt.alloc();
+    let rows = [
+        (65_535usize, "refused malformed\n"),
+        (65_536, "refused too long\n"),
+    ];
+    for (size, text) in rows {
+        let mut input = Vec::from_slice(alloc, b"hook ")?;
+        repeat(&mut input, b'0', size)?;
+        repeat(&mut input, b'0', size)?;
+        input.extend_from_slice(b"\nend\n")?;
+        let (answer, sink) = in_pieces(alloc, "check", input.as_slice(), 4096)?;
+        assert_eq!(rt; answer, Status::HookRefused, "at {size}");
+        assert_eq!(rt; sink.written(), text.as_bytes(), "at {size}");
     }
     Ok(())
 }
@@ -298,7 +455,7 @@ fn lines_are_answered_as_their_rules_say(rt: HostRuntime) -> Result<(), Fail> {
             "run",
             "hook 00\nend\nhook",
             Status::HookRefused,
-            "refused not yet\n",
+            "refused malformed\n",
         ),
     ];
     for (word, input, status, text) in rows {
@@ -481,14 +638,7 @@ fn long_transactions_and_lines_are_told(rt: HostRuntime) -> Result<(), Fail> {
 #[test]
 fn other_words_print_the_usage_line(rt: HostRuntime) -> Result<(), Fail> {
     let alloc = rt.alloc();
-    let lists: [&[&str]; 6] = [
-        &[],
-        &["run", "run"],
-        &["--help"],
-        &["check"],
-        &["demo", "10"],
-        &["Run"],
-    ];
+    let lists: [&[&str]; 5] = [&[], &["run", "run"], &["--help"], &["demo", "10"], &["Run"]];
     for list in lists {
         let words = words_of(alloc, list)?;
         let mut source = MemSource::new(
@@ -512,7 +662,7 @@ fn other_words_print_the_usage_line(rt: HostRuntime) -> Result<(), Fail> {
 #[test]
 fn faults_of_the_outside_are_told(rt: HostRuntime) -> Result<(), Fail> {
     let alloc = rt.alloc();
-    let input = format!(in alloc; "hook {HEAD}{ACCEPTS}\nend\n")?;
+    let input = format!(in alloc; "hook {ACCEPTS}\nend\n")?;
     let words = words_of(alloc, &["run"])?;
     let rows = [
         (1, 99, Status::ReadFault),
@@ -588,7 +738,7 @@ fn statuses_have_their_numbers(rt: HostRuntime) -> Result<(), Fail> {
 #[test]
 fn short_writes_are_gone_on_with(rt: HostRuntime) -> Result<(), Fail> {
     let alloc = rt.alloc();
-    let input = format!(in alloc; "hook {HEAD}{ACCEPTS}\nend\n")?;
+    let input = format!(in alloc; "hook {ACCEPTS}\nend\n")?;
     let words = words_of(alloc, &["run"])?;
     let mut source = HonestSource::new(Vec::from_slice(alloc, input.as_bytes())?, 64);
     let mut sink = SlowSink {
