@@ -1,10 +1,13 @@
 //! The commands on lines by hand, wrong lines, other words, and faults.
 ghost use Rattle.std.specs.Prelude.{◌≤◌, Some};
 
+use crate::refusal::refused_line;
 use crate::{Status, exit_status, top};
 use hk_base::{HonestSink, HonestSource, MemSink, MemSource, NoMemory, Sink, SinkStop, StdSink};
 use std::alloc::Global;
+use hk_bound::{CheckFault, Export};
 use std::test::Fail;
+use wa_ops::RuleFault;
 
 // A hook that accepts with an empty text.
 const ACCEPTS: &str =
@@ -220,6 +223,42 @@ fn hooks_are_answered_by_their_code(rt: HostRuntime) -> Result<(), Fail> {
             assert_eq!(rt; answer, status, "at {code}");
             assert_eq!(rt; sink.written(), text.as_bytes(), "at {code}");
         }
+    }
+    Ok(())
+}
+
+#[test]
+fn refusals_have_their_texts(rt: HostRuntime) -> Result<(), Fail> {
+    let alloc = rt.alloc();
+    let rows = [
+        (CheckFault::TooLong, "refused too long\n"),
+        (CheckFault::Malformed, "refused malformed\n"),
+        (CheckFault::Rule(RuleFault::FloatType { index: 0 }), "refused float type 0\n"),
+        (CheckFault::Rule(RuleFault::FloatGlobal { index: 1 }), "refused float global 1\n"),
+        (CheckFault::Rule(RuleFault::FloatLocals { func: 2 }), "refused float locals 2\n"),
+        (CheckFault::Rule(RuleFault::FloatCode { func: 3, op: 4 }), "refused float code 3 4\n"),
+        (CheckFault::Rule(RuleFault::BadImport { index: 5 }), "refused import 5\n"),
+        (CheckFault::Rule(RuleFault::BadType { index: 6 }), "refused type 6\n"),
+        (CheckFault::Rule(RuleFault::BadFunction { func: 7 }), "refused function 7\n"),
+        (CheckFault::Rule(RuleFault::BadTable), "refused table\n"),
+        (CheckFault::Rule(RuleFault::BadMemory), "refused memory\n"),
+        (CheckFault::Rule(RuleFault::BadGlobal { index: 8 }), "refused global 8\n"),
+        (CheckFault::Rule(RuleFault::BadExport), "refused export\n"),
+        (CheckFault::Rule(RuleFault::Start), "refused start\n"),
+        (CheckFault::Rule(RuleFault::Elements), "refused elements\n"),
+        (CheckFault::Rule(RuleFault::BadData { index: 9 }), "refused segment 9\n"),
+        (CheckFault::Rule(RuleFault::TooManyLocals { func: 10 }), "refused locals 10\n"),
+        (CheckFault::Rule(RuleFault::IndirectCall { func: 0, op: 11 }), "refused indirect 0 11\n"),
+        (CheckFault::Rule(RuleFault::Grow { func: 1, op: 12 }), "refused grow 1 12\n"),
+        (CheckFault::Rule(RuleFault::OwnCall { func: 2, op: 13 }), "refused own call 2 13\n"),
+        (CheckFault::Rule(RuleFault::GuardNotConstant { func: 3, op: 14 }), "refused guard constant 3 14\n"),
+        (CheckFault::Rule(RuleFault::LoopWithoutGuard { func: 4, op: 4294967295 }), "refused loop guard 4 4294967295\n"),
+        (CheckFault::Untyped { func: 5, op: 6 }, "refused untyped 5 6\n"),
+        (CheckFault::BoundTooLarge { export: Export::Hook, bound: 65536 }, "refused bound hook 65536\n"),
+        (CheckFault::BoundTooLarge { export: Export::Cbak, bound: 18446744073709551615 }, "refused bound cbak 18446744073709551615\n"),
+    ];
+    for (fault, text) in rows {
+        assert_eq!(rt; refused_line(alloc, fault)?.as_str(), text);
     }
     Ok(())
 }
