@@ -62,6 +62,7 @@ impl World {
     pub fn ledger(&self) -> &Ledger
         ensures ledger { result.now ≡ self.now.ledger }
         ensures conserved { balances self.now.ledger.entries + self.now.ledger.burnt ≡ self.now.opening }
+        ensures most { self.now.opening ≤ most_drops }
     {
         &self.ledger
     }
