@@ -6,8 +6,8 @@ ghost use Rattle.hk_ledger.specs.Machine.{IsInRange};
 ghost use Rattle.hk_ledger.specs.Rules.{IsFailure, fails};
 
 use crate::{
-    Done, Entries, Entry, Header, Key, Ledger, Native, OpenFault, Overlay, Replay, Stepped,
-    Transactor, World, apply, conserves, open_account, open_ledger,
+    Done, Header, Ledger, Native, OpenFault, Overlay, Replay, Stepped, Transactor, World, apply,
+    conserves, open_account, open_ledger,
 };
 use hk_base::{AccountId, Hash256, Items, NoMemory, hex_to_bytes};
 use hk_lines::{InputLine, OutputLine, ResultName, Verdict, print_line, read_line};
@@ -313,120 +313,6 @@ fn long_transactions_are_told(rt: HostRuntime) -> Result<(), Fail> {
         result_of_zeros(alloc, 1_000_001)?,
         Some(ResultName::TooLong)
     );
-    Ok(())
-}
-
-// An entry in short.
-fn told(alloc: Global, entry: Option<&Entry>) -> Result<String, AllocError> {
-    match entry {
-        None => String::from_str(alloc, "none"),
-        Some(Entry::Account { balance, sequence }) => format!(in alloc; "{balance} {sequence}"),
-        Some(Entry::Other(bytes)) => {
-            let bytes = bytes.as_slice();
-            format!(in alloc; "{bytes:?}")
-        }
-    }
-}
-
-fn other(alloc: Global, byte: u8) -> Result<Entry, AllocError> {
-    Ok(Entry::Other(Items::from_vec(Vec::from_slice(alloc, &[byte, 1])?)))
-}
-
-// Two accounts and two other entries, of which one was set twice.
-fn some_entries(alloc: Global) -> Result<Entries, AllocError> {
-    let account = Entry::Account {
-        balance: 5,
-        sequence: 6,
-    };
-    let mut entries = Entries::new(alloc);
-    entries.put(Key::Other([2; 60]), other(alloc, 8)?)?;
-    entries.put(Key::Account(B), account.copy()?)?;
-    entries.put(Key::Other([1; 60]), other(alloc, 7)?)?;
-    entries.put(Key::Account(A), account)?;
-    entries.put(Key::Other([2; 60]), other(alloc, 9)?)?;
-    Ok(entries)
-}
-
-// B and one other entry removed, C and another entry set, and A set twice.
-fn some_writes(alloc: Global) -> Result<Overlay, AllocError> {
-    let account = Entry::Account {
-        balance: 7,
-        sequence: 8,
-    };
-    let mut overlay = Overlay::new(alloc);
-    overlay.put(Key::Account(A), other(alloc, 0)?)?;
-    overlay.put(Key::Account(C), account.copy()?)?;
-    overlay.put(Key::Account(A), account)?;
-    overlay.put(Key::Other([1; 60]), other(alloc, 0)?)?;
-    overlay.remove(Key::Other([1; 60]))?;
-    overlay.remove(Key::Account(B))?;
-    overlay.put(Key::Other([3; 60]), other(alloc, 3)?)?;
-    Ok(overlay)
-}
-
-#[test]
-fn entries_and_writes_are_maps(rt: HostRuntime) -> Result<(), Fail> {
-    let alloc = rt.alloc();
-    let before = some_entries(alloc)?;
-    let mut cut = before.copy()?;
-    cut.cut(&Key::Account(A));
-    cut.cut(&Key::Other([9; 60]));
-    let overlay = some_writes(alloc)?;
-    let empty = Ledger::new(alloc);
-    let made = some_writes(alloc)?.made_on(&before)?;
-    let rows = [
-        (Key::Account(A), "5 6", "none", "7 8", "7 8"),
-        (Key::Account(B), "5 6", "5 6", "none", "none"),
-        (Key::Account(C), "none", "none", "7 8", "7 8"),
-        (Key::Other([1; 60]), "[7, 1]", "[7, 1]", "none", "none"),
-        (Key::Other([2; 60]), "[9, 1]", "[9, 1]", "none", "[9, 1]"),
-        (Key::Other([3; 60]), "none", "none", "[3, 1]", "[3, 1]"),
-    ];
-    for (key, first, second, third, fourth) in rows {
-        assert_eq!(rt; told(alloc, before.get(&key))?.as_str(), first);
-        assert_eq!(rt; told(alloc, cut.get(&key))?.as_str(), second);
-        assert_eq!(rt; told(alloc, overlay.get(&empty, &key))?.as_str(), third);
-        assert_eq!(rt; told(alloc, made.get(&key))?.as_str(), fourth);
-    }
-    let lines = made.account_lines(alloc)?;
-    let want = spelled(alloc, "final account A 7 8 0 0\nfinal account C 7 8 0 0\n")?;
-    assert_eq!(rt;
-        printed(alloc, "", lines.as_slice())?.as_slice(),
-        want.as_bytes()
-    );
-    Ok(())
-}
-
-#[test]
-fn writes_are_committed_at_once(rt: HostRuntime) -> Result<(), Fail> {
-    let alloc = rt.alloc();
-    let mut ledger = Ledger::new(alloc);
-    ledger.set_header(Header {
-        seq: 3,
-        time: 4,
-        last_hash: O,
-    });
-    ledger.commit(some_writes(alloc)?, 2, 30)?;
-    assert_eq!(rt;
-        (ledger.next_number(), ledger.burnt(), ledger.header().seq),
-        (3, 30, 3)
-    );
-    let mut overlay = Overlay::new(alloc);
-    overlay.remove(Key::Account(A))?;
-    assert_eq!(rt;
-        overlay.holding(&ledger, &C).map(|holding| holding.balance),
-        Some(7)
-    );
-    assert!(rt; overlay.holding(&ledger, &A).is_none());
-    assert!(rt; ledger.holding(&A).is_some());
-    ledger.commit(overlay, 0, 12)?;
-    assert_eq!(rt; (ledger.next_number(), ledger.burnt()), (3, 42));
-    assert!(rt; ledger.get(&Key::Account(A)).is_none());
-    assert_eq!(rt;
-        told(alloc, ledger.get(&Key::Other([3; 60])))?.as_str(),
-        "[3, 1]"
-    );
-    assert_eq!(rt; ledger.account_lines(alloc)?.len(), 1);
     Ok(())
 }
 
