@@ -6,8 +6,8 @@ ghost use Rattle.hk_ledger.specs.Machine.{IsInRange};
 ghost use Rattle.hk_ledger.specs.Rules.{IsFailure, fails};
 
 use crate::{
-    Done, Header, Ledger, Native, OpenFault, Overlay, Replay, Stepped, Transactor, World, apply,
-    conserves, open_account, open_ledger,
+    Done, Entries, Entry, Header, Key, Ledger, Native, OpenFault, Overlay, Replay, Stepped,
+    Transactor, World, apply, conserves, open_account, open_ledger,
 };
 use hk_base::{AccountId, Hash256, Items, NoMemory, hex_to_bytes};
 use hk_lines::{InputLine, OutputLine, ResultName, Verdict, print_line, read_line};
@@ -313,6 +313,167 @@ fn long_transactions_are_told(rt: HostRuntime) -> Result<(), Fail> {
         result_of_zeros(alloc, 1_000_001)?,
         Some(ResultName::TooLong)
     );
+    Ok(())
+}
+
+// An entry in short.
+fn told(alloc: Global, entry: Option<&Entry>) -> Result<String, AllocError> {
+    match entry {
+        None => String::from_str(alloc, "none"),
+        Some(Entry::Account { balance, sequence }) => format!(in alloc; "{balance} {sequence}"),
+        Some(Entry::Other(bytes)) => {
+            let bytes = bytes.as_slice();
+            format!(in alloc; "{bytes:?}")
+        }
+    }
+}
+
+// A key that the check doesn't know, so that no list of its bytes stands in a proof.
+fn other_key(byte: u8) -> Key {
+    Key::Other([byte; 60])
+}
+
+fn other(alloc: Global, byte: u8) -> Result<Entry, AllocError> {
+    Ok(Entry::Other(Items::from_vec(Vec::from_slice(alloc, &[byte, 1])?)))
+}
+
+// Two accounts and two other entries, of which one was set twice.
+fn some_entries(alloc: Global) -> Result<Entries, AllocError> {
+    let account = Entry::Account {
+        balance: 5,
+        sequence: 6,
+    };
+    let mut entries = Entries::new(alloc);
+    entries.put(other_key(2), other(alloc, 8)?)?;
+    entries.put(Key::Account(B), account.copy()?)?;
+    entries.put(other_key(1), other(alloc, 7)?)?;
+    entries.put(Key::Account(A), account)?;
+    entries.put(other_key(2), other(alloc, 9)?)?;
+    Ok(entries)
+}
+
+// B and one other entry removed, C and another entry set, and A set twice.
+fn some_writes(alloc: Global) -> Result<Overlay, AllocError> {
+    let account = Entry::Account {
+        balance: 7,
+        sequence: 8,
+    };
+    let mut overlay = Overlay::new(alloc);
+    overlay.put(Key::Account(A), other(alloc, 0)?)?;
+    overlay.put(Key::Account(C), account.copy()?)?;
+    overlay.put(Key::Account(A), account)?;
+    overlay.put(other_key(1), other(alloc, 0)?)?;
+    overlay.remove(other_key(1))?;
+    overlay.remove(Key::Account(B))?;
+    overlay.put(other_key(3), other(alloc, 3)?)?;
+    Ok(overlay)
+}
+
+fn some_keys() -> [Key; 6] {
+    [
+        Key::Account(A),
+        Key::Account(B),
+        Key::Account(C),
+        other_key(1),
+        other_key(2),
+        other_key(3),
+    ]
+}
+
+// What a map has at some keys.
+fn told_all(alloc: Global, entries: &Entries) -> Result<String, AllocError> {
+    let mut text = String::from_str(alloc, "")?;
+    for key in some_keys() {
+        let found = told(alloc, entries.get(&key))?;
+        text = format!(in alloc; "{text}{found}; ")?;
+    }
+    Ok(text)
+}
+
+#[test]
+fn entries_are_a_map(rt: HostRuntime) -> Result<(), Fail> {
+    let alloc = rt.alloc();
+    let entries = some_entries(alloc)?;
+    let mut cut = entries.copy()?;
+    cut.cut(&Key::Account(A));
+    cut.cut(&other_key(9));
+    assert_eq!(rt;
+        told_all(alloc, &entries)?.as_str(),
+        "5 6; 5 6; none; [7, 1]; [9, 1]; none; "
+    );
+    assert_eq!(rt;
+        told_all(alloc, &cut)?.as_str(),
+        "none; 5 6; none; [7, 1]; [9, 1]; none; "
+    );
+    Ok(())
+}
+
+#[test]
+fn writes_are_made_on_entries(rt: HostRuntime) -> Result<(), Fail> {
+    let alloc = rt.alloc();
+    let made = some_writes(alloc)?.made_on(&some_entries(alloc)?)?;
+    assert_eq!(rt;
+        told_all(alloc, &made)?.as_str(),
+        "7 8; none; 7 8; none; [9, 1]; [3, 1]; "
+    );
+    let lines = made.account_lines(alloc)?;
+    let want = spelled(alloc, "final account A 7 8 0 0\nfinal account C 7 8 0 0\n")?;
+    assert_eq!(rt;
+        printed(alloc, "", lines.as_slice())?.as_slice(),
+        want.as_bytes()
+    );
+    Ok(())
+}
+
+// What a ledger without entries has at some keys, with some writes made.
+fn told_over(alloc: Global, overlay: &Overlay) -> Result<String, AllocError> {
+    let ledger = Ledger::new(alloc);
+    let mut text = String::from_str(alloc, "")?;
+    for key in some_keys() {
+        let found = told(alloc, overlay.get(&ledger, &key))?;
+        text = format!(in alloc; "{text}{found}; ")?;
+    }
+    Ok(text)
+}
+
+#[test]
+fn the_newest_write_is_seen(rt: HostRuntime) -> Result<(), Fail> {
+    let alloc = rt.alloc();
+    let overlay = some_writes(alloc)?;
+    assert_eq!(rt;
+        told_over(alloc, &overlay)?.as_str(),
+        "7 8; none; 7 8; none; none; [3, 1]; "
+    );
+    Ok(())
+}
+
+#[test]
+fn writes_are_committed_at_once(rt: HostRuntime) -> Result<(), Fail> {
+    let alloc = rt.alloc();
+    let mut ledger = Ledger::new(alloc);
+    ledger.set_header(Header {
+        seq: 3,
+        time: 4,
+        last_hash: O,
+    });
+    ledger.commit(some_writes(alloc)?, 2, 30)?;
+    assert_eq!(rt;
+        (ledger.next_number(), ledger.burnt(), ledger.header().seq),
+        (3, 30, 3)
+    );
+    let mut overlay = Overlay::new(alloc);
+    overlay.remove(Key::Account(A))?;
+    assert_eq!(rt;
+        overlay.holding(&ledger, &C).map(|holding| holding.balance),
+        Some(7)
+    );
+    assert!(rt; overlay.holding(&ledger, &A).is_none());
+    assert!(rt; ledger.holding(&A).is_some());
+    ledger.commit(overlay, 0, 12)?;
+    assert_eq!(rt; (ledger.next_number(), ledger.burnt()), (3, 42));
+    assert!(rt; ledger.get(&Key::Account(A)).is_none());
+    assert_eq!(rt; told(alloc, ledger.get(&other_key(3)))?.as_str(), "[3, 1]");
+    assert_eq!(rt; ledger.account_lines(alloc)?.len(), 1);
     Ok(())
 }
 
