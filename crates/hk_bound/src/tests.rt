@@ -629,14 +629,3 @@ fn what_is_kept(rt: HostRuntime) -> Result<(), Fail> {
     assert_eq!(rt; checked.module().codes.len(), 1);
     Ok(())
 }
-
-#[test]
-fn length_and_spelling(rt: HostRuntime) -> Result<(), Fail> {
-    let long = vec![in rt.alloc(); 0u8; 65536]?;
-    assert_eq!(rt; shown(rt.alloc(), &long)?.as_str(), "TooLong");
-    assert_eq!(rt; shown(rt.alloc(), &long[..65535])?.as_str(), "Malformed");
-    let code = code_of(rt.alloc(), &(0, b"", 0, b"", PLAIN, ""))?;
-    assert_eq!(rt; shown(rt.alloc(), &code)?.as_str(), "2 None");
-    assert_eq!(rt; shown(rt.alloc(), &code[1..])?.as_str(), "Malformed");
-    Ok(())
-}

@@ -328,6 +328,11 @@ fn told(alloc: Global, entry: Option<&Entry>) -> Result<String, AllocError> {
     }
 }
 
+// A key that the check doesn't know, so that no list of its bytes stands in a proof.
+fn other_key(byte: u8) -> Key {
+    Key::Other([byte; 60])
+}
+
 fn other(alloc: Global, byte: u8) -> Result<Entry, AllocError> {
     Ok(Entry::Other(Items::from_vec(Vec::from_slice(alloc, &[byte, 1])?)))
 }
@@ -339,11 +344,11 @@ fn some_entries(alloc: Global) -> Result<Entries, AllocError> {
         sequence: 6,
     };
     let mut entries = Entries::new(alloc);
-    entries.put(Key::Other([2; 60]), other(alloc, 8)?)?;
+    entries.put(other_key(2), other(alloc, 8)?)?;
     entries.put(Key::Account(B), account.copy()?)?;
-    entries.put(Key::Other([1; 60]), other(alloc, 7)?)?;
+    entries.put(other_key(1), other(alloc, 7)?)?;
     entries.put(Key::Account(A), account)?;
-    entries.put(Key::Other([2; 60]), other(alloc, 9)?)?;
+    entries.put(other_key(2), other(alloc, 9)?)?;
     Ok(entries)
 }
 
@@ -357,42 +362,87 @@ fn some_writes(alloc: Global) -> Result<Overlay, AllocError> {
     overlay.put(Key::Account(A), other(alloc, 0)?)?;
     overlay.put(Key::Account(C), account.copy()?)?;
     overlay.put(Key::Account(A), account)?;
-    overlay.put(Key::Other([1; 60]), other(alloc, 0)?)?;
-    overlay.remove(Key::Other([1; 60]))?;
+    overlay.put(other_key(1), other(alloc, 0)?)?;
+    overlay.remove(other_key(1))?;
     overlay.remove(Key::Account(B))?;
-    overlay.put(Key::Other([3; 60]), other(alloc, 3)?)?;
+    overlay.put(other_key(3), other(alloc, 3)?)?;
     Ok(overlay)
 }
 
-#[test]
-fn entries_and_writes_are_maps(rt: HostRuntime) -> Result<(), Fail> {
-    let alloc = rt.alloc();
-    let before = some_entries(alloc)?;
-    let mut cut = before.copy()?;
-    cut.cut(&Key::Account(A));
-    cut.cut(&Key::Other([9; 60]));
-    let overlay = some_writes(alloc)?;
-    let empty = Ledger::new(alloc);
-    let made = some_writes(alloc)?.made_on(&before)?;
-    let rows = [
-        (Key::Account(A), "5 6", "none", "7 8", "7 8"),
-        (Key::Account(B), "5 6", "5 6", "none", "none"),
-        (Key::Account(C), "none", "none", "7 8", "7 8"),
-        (Key::Other([1; 60]), "[7, 1]", "[7, 1]", "none", "none"),
-        (Key::Other([2; 60]), "[9, 1]", "[9, 1]", "none", "[9, 1]"),
-        (Key::Other([3; 60]), "none", "none", "[3, 1]", "[3, 1]"),
-    ];
-    for (key, first, second, third, fourth) in rows {
-        assert_eq!(rt; told(alloc, before.get(&key))?.as_str(), first);
-        assert_eq!(rt; told(alloc, cut.get(&key))?.as_str(), second);
-        assert_eq!(rt; told(alloc, overlay.get(&empty, &key))?.as_str(), third);
-        assert_eq!(rt; told(alloc, made.get(&key))?.as_str(), fourth);
+fn some_keys() -> [Key; 6] {
+    [
+        Key::Account(A),
+        Key::Account(B),
+        Key::Account(C),
+        other_key(1),
+        other_key(2),
+        other_key(3),
+    ]
+}
+
+// What a map has at some keys.
+fn told_all(alloc: Global, entries: &Entries) -> Result<String, AllocError> {
+    let mut text = String::from_str(alloc, "")?;
+    for key in some_keys() {
+        let found = told(alloc, entries.get(&key))?;
+        text = format!(in alloc; "{text}{found}; ")?;
     }
+    Ok(text)
+}
+
+#[test]
+fn entries_are_a_map(rt: HostRuntime) -> Result<(), Fail> {
+    let alloc = rt.alloc();
+    let entries = some_entries(alloc)?;
+    let mut cut = entries.copy()?;
+    cut.cut(&Key::Account(A));
+    cut.cut(&other_key(9));
+    assert_eq!(rt;
+        told_all(alloc, &entries)?.as_str(),
+        "5 6; 5 6; none; [7, 1]; [9, 1]; none; "
+    );
+    assert_eq!(rt;
+        told_all(alloc, &cut)?.as_str(),
+        "none; 5 6; none; [7, 1]; [9, 1]; none; "
+    );
+    Ok(())
+}
+
+#[test]
+fn writes_are_made_on_entries(rt: HostRuntime) -> Result<(), Fail> {
+    let alloc = rt.alloc();
+    let made = some_writes(alloc)?.made_on(&some_entries(alloc)?)?;
+    assert_eq!(rt;
+        told_all(alloc, &made)?.as_str(),
+        "7 8; none; 7 8; none; [9, 1]; [3, 1]; "
+    );
     let lines = made.account_lines(alloc)?;
     let want = spelled(alloc, "final account A 7 8 0 0\nfinal account C 7 8 0 0\n")?;
     assert_eq!(rt;
         printed(alloc, "", lines.as_slice())?.as_slice(),
         want.as_bytes()
+    );
+    Ok(())
+}
+
+// What a ledger without entries has at some keys, with some writes made.
+fn told_over(alloc: Global, overlay: &Overlay) -> Result<String, AllocError> {
+    let ledger = Ledger::new(alloc);
+    let mut text = String::from_str(alloc, "")?;
+    for key in some_keys() {
+        let found = told(alloc, overlay.get(&ledger, &key))?;
+        text = format!(in alloc; "{text}{found}; ")?;
+    }
+    Ok(text)
+}
+
+#[test]
+fn the_newest_write_is_seen(rt: HostRuntime) -> Result<(), Fail> {
+    let alloc = rt.alloc();
+    let overlay = some_writes(alloc)?;
+    assert_eq!(rt;
+        told_over(alloc, &overlay)?.as_str(),
+        "7 8; none; 7 8; none; none; [3, 1]; "
     );
     Ok(())
 }
@@ -422,10 +472,7 @@ fn writes_are_committed_at_once(rt: HostRuntime) -> Result<(), Fail> {
     ledger.commit(overlay, 0, 12)?;
     assert_eq!(rt; (ledger.next_number(), ledger.burnt()), (3, 42));
     assert!(rt; ledger.get(&Key::Account(A)).is_none());
-    assert_eq!(rt;
-        told(alloc, ledger.get(&Key::Other([3; 60])))?.as_str(),
-        "[3, 1]"
-    );
+    assert_eq!(rt; told(alloc, ledger.get(&other_key(3)))?.as_str(), "[3, 1]");
     assert_eq!(rt; ledger.account_lines(alloc)?.len(), 1);
     Ok(())
 }

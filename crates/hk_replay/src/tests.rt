@@ -1,10 +1,13 @@
 //! The commands on lines by hand, wrong lines, other words, and faults.
 ghost use Rattle.std.specs.Prelude.{◌≤◌, Some};
 
+use crate::refusal::refused_line;
 use crate::{Status, exit_status, top};
 use hk_base::{HonestSink, HonestSource, MemSink, MemSource, NoMemory, Sink, SinkStop, StdSink};
+use hk_bound::{CheckFault, Export};
 use std::alloc::Global;
 use std::test::Fail;
+use wa_ops::RuleFault;
 
 // A hook that accepts with an empty text.
 const ACCEPTS: &str =
@@ -47,179 +50,316 @@ fn in_pieces(
     word: &str,
     input: &[u8],
     piece: usize,
-) -> Result<(Status, HonestSink), NoMemory>
-    requires some { 1 ≤ piece }
-{
+) -> Result<(Status, HonestSink), NoMemory> {
     let words = words_of(alloc, &[word])?;
-    let mut source = HonestSource::new(Vec::from_slice(alloc, input)?, piece);
+    let mut source = HonestSource::new(Vec::from_slice(alloc, input)?, piece.max(1));
     let mut sink = HonestSink::new(alloc);
     let status = top(alloc, words.as_slice(), &mut source, &mut sink);
     Ok((status, sink))
 }
 
+/// A command, its input, and how it is answered.
+type Row<'a> = (&'a str, &'a str, Status, &'a str);
+
+// Whether a row is answered as it says, in pieces of any size.
+fn is_right(alloc: Global, row: &Row<'_>) -> Result<bool, NoMemory> {
+    let (word, input, status, text) = row;
+    let bytes = spelled(alloc, input)?;
+    let wanted = spelled(alloc, text)?;
+    for piece in [1usize, 7, 64, 4096] {
+        let (answer, sink) = in_pieces(alloc, word, bytes.as_slice(), piece)?;
+        if answer != *status || sink.written() != wanted.as_slice() {
+            return Ok(false);
+        }
+    }
+    Ok(true)
+}
+
+// How many rows are answered as they say, up to the first that isn't.
+fn right_rows(alloc: Global, rows: &[Row<'_>]) -> Result<usize, NoMemory> {
+    for (index, row) in rows.iter().enumerate() {
+        if !is_right(alloc, row)? {
+            return Ok(index);
+        }
+    }
+    Ok(rows.len())
+}
+
 #[test]
-fn hooks_are_answered_by_their_code(rt: HostRuntime) -> Result<(), Fail> {
-    let alloc = rt.alloc();
-    let rows = [
+fn hooks_run_and_are_checked(rt: HostRuntime) -> Result<(), Fail> {
+    let rows: [Row<'_>; 9] = [
         (
             "run",
-            "0061736d01000000010d0260017f017e60037f7f7e017e020e0103656e760661636365707400010302010007080104686f6f6b00010a0c010a0041004100420010000b",
+            "# a hook\n\nhook 0061736d01000000010d0260017f017e60037f7f7e017e020e0103656e760661636365707400010302010007080104686f6f6b00010a0c010a0041004100420010000b\r\nend",
             Status::Done,
             "accepted 0 - count 4 bound 5\n",
         ),
         (
             "check",
-            "0061736d01000000010d0260017f017e60037f7f7e017e020e0103656e760661636365707400010302010007080104686f6f6b00010a0c010a0041004100420010000b",
+            "# a hook\n\nhook 0061736d01000000010d0260017f017e60037f7f7e017e020e0103656e760661636365707400010302010007080104686f6f6b00010a0c010a0041004100420010000b\r\nend",
             Status::Done,
             "ok 05be6c6ad48411da51b18d576bd9e9c90d8bbd6a7a6e08a6c67d4a8ebf183da3 hook 5 cbak -\n",
         ),
         (
             "run",
-            "0061736d01000000010d0260017f017e60037f7f7e017e020e0103656e760661636365707400010302010007080104686f6f6b00010a0c010a0041014100420010000b",
+            "# a hook\n\nhook 0061736d01000000010d0260017f017e60037f7f7e017e020e0103656e760661636365707400010302010007080104686f6f6b00010a0c010a0041014100420010000b\r\nend",
             Status::Done,
             "returned -1 count 5 bound 5\n",
         ),
         (
             "run",
-            "0061736d01000000010d0260017f017e60037f7f7e017e020e0103656e760661636365707400010302010007080104686f6f6b00010a0c010a004100410042001000",
+            "# a hook\n\nhook 0061736d01000000010d0260017f017e60037f7f7e017e020e0103656e760661636365707400010302010007080104686f6f6b00010a0c010a004100410042001000\r\nend",
             Status::HookRefused,
             "refused malformed\n",
         ),
         (
             "check",
-            "0061736d01000000010d0260017f017e60037f7f7e017e020e0103656e760661636365707400010302010007080104686f6f6b00010a0c010a0041004100420010000b00",
+            "# a hook\n\nhook 0061736d01000000010d0260017f017e60037f7f7e017e020e0103656e760661636365707400010302010007080104686f6f6b00010a0c010a0041004100420010000b00\r\nend",
             Status::HookRefused,
             "refused malformed\n",
         ),
         (
             "run",
-            "0061736d01000000010d0260017f017e60037f7f7e017e020e0103656e760661636365707400010302010007080104686f6f6b00010a10010e004180808080004100420010000b",
+            "# a hook\n\nhook 0061736d01000000010d0260017f017e60037f7f7e017e020e0103656e760661636365707400010302010007080104686f6f6b00010a10010e004180808080004100420010000b\r\nend",
             Status::Done,
             "accepted 0 - count 4 bound 5\n",
         ),
         (
             "run",
-            "0061736d01000000010d0260017f017e60037f7f7e017e02100103656e7608726f6c6c6261636b00010302010007080104686f6f6b00010a0c010a0041004100420710000b",
+            "# a hook\n\nhook 0061736d01000000010d0260017f017e60037f7f7e017e02100103656e7608726f6c6c6261636b00010302010007080104686f6f6b00010a0c010a0041004100420710000b\r\nend",
             Status::Done,
             "rolledback 7 - count 4 bound 5\n",
         ),
         (
             "run",
-            "0061736d0100000001130360017f017e60027f7f017f60037f7f7e017e02260303656e76025f67000103656e7606616363657074000203656e7608726f6c6c6261636b0002030201000503010001071102066d656d6f7279020004686f6f6b00030a1201100003404101410410001a0c000b42000b",
+            "# a hook\n\nhook 0061736d0100000001130360017f017e60027f7f017f60037f7f7e017e02260303656e76025f67000103656e7606616363657074000203656e7608726f6c6c6261636b0002030201000503010001071102066d656d6f7279020004686f6f6b00030a1201100003404101410410001a0c000b42000b\r\nend",
             Status::Done,
             "guard 1 4 count 24 bound 30\n",
         ),
         (
             "run",
-            "0061736d0100000001130360017f017e60027f7f017f60037f7f7e017e02260303656e76025f67000103656e7606616363657074000203656e7608726f6c6c6261636b0002030201000503010001071102066d656d6f7279020004686f6f6b00030a1201100003404101410010001a0c000b42000b",
+            "# a hook\n\nhook 0061736d0100000001130360017f017e60027f7f017f60037f7f7e017e02260303656e76025f67000103656e7606616363657074000203656e7608726f6c6c6261636b0002030201000503010001071102066d656d6f7279020004686f6f6b00030a1201100003404101410010001a0c000b42000b\r\nend",
             Status::Done,
             "guard 1 0 count 4 bound 6\n",
         ),
+    ];
+    assert_eq!(rt; right_rows(rt.alloc(), &rows)?, 9);
+    Ok(())
+}
+
+#[test]
+fn guards_end_runs(rt: HostRuntime) -> Result<(), Fail> {
+    let rows: [Row<'_>; 7] = [
         (
             "run",
-            "0061736d0100000001130360017f017e60027f7f017f60037f7f7e017e02260303656e76025f67000103656e7606616363657074000203656e7608726f6c6c6261636b0002030201000503010001071102066d656d6f7279020004686f6f6b00030a1c011a0003404101410510001a0b03404101410910001a0c000b42000b",
+            "# a hook\n\nhook 0061736d0100000001130360017f017e60027f7f017f60037f7f7e017e02260303656e76025f67000103656e7606616363657074000203656e7608726f6c6c6261636b0002030201000503010001071102066d656d6f7279020004686f6f6b00030a1c011a0003404101410510001a0b03404101410910001a0c000b42000b\r\nend",
             Status::Done,
             "guard 1 9 count 50 bound 86\n",
         ),
         (
             "run",
-            "0061736d0100000001130360017f017e60027f7f017f60037f7f7e017e02260303656e76025f67000103656e7606616363657074000203656e7608726f6c6c6261636b0002030201000503010001071102066d656d6f7279020004686f6f6b00030a1c011a0003404101410310001a03404102410210001a0b0c000b42000b",
+            "# a hook\n\nhook 0061736d0100000001130360017f017e60027f7f017f60037f7f7e017e02260303656e76025f67000103656e7606616363657074000203656e7608726f6c6c6261636b0002030201000503010001071102066d656d6f7279020004686f6f6b00030a1c011a0003404101410310001a03404102410210001a0b0c000b42000b\r\nend",
             Status::Done,
             "guard 2 2 count 31 bound 37\n",
         ),
         (
             "run",
-            "0061736d0100000001130360017f017e60027f7f017f60037f7f7e017e02260303656e76025f67000103656e7606616363657074000203656e7608726f6c6c6261636b0002030201000503010001071102066d656d6f7279020004686f6f6b00030a190117004101410210001a03404101410210001a0c000b42000b",
+            "# a hook\n\nhook 0061736d0100000001130360017f017e60027f7f017f60037f7f7e017e02260303656e76025f67000103656e7606616363657074000203656e7608726f6c6c6261636b0002030201000503010001071102066d656d6f7279020004686f6f6b00030a190117004101410210001a03404101410210001a0c000b42000b\r\nend",
             Status::Done,
             "guard 1 2 count 13 bound 22\n",
         ),
         (
             "run",
-            "0061736d0100000001130360017f017e60027f7f017f60037f7f7e017e02260303656e76025f67000103656e7606616363657074000203656e7608726f6c6c6261636b0002030201000503010001071102066d656d6f7279020004686f6f6b00030a190117004101410210001a03404101410010001a0c000b42000b",
+            "# a hook\n\nhook 0061736d0100000001130360017f017e60027f7f017f60037f7f7e017e02260303656e76025f67000103656e7606616363657074000203656e7608726f6c6c6261636b0002030201000503010001071102066d656d6f7279020004686f6f6b00030a190117004101410210001a03404101410010001a0c000b42000b\r\nend",
             Status::Done,
             "guard 1 0 count 8 bound 10\n",
         ),
         (
             "check",
-            "0061736d0100000001130360017f017e60027f7f017f60037f7f7e017e02260303656e76025f67000103656e7606616363657074000203656e7608726f6c6c6261636b0002030201000503010001071102066d656d6f7279020004686f6f6b00030a11010f000340014101410410001a0b42000b",
+            "# a hook\n\nhook 0061736d0100000001130360017f017e60027f7f017f60037f7f7e017e02260303656e76025f67000103656e7606616363657074000203656e7608726f6c6c6261636b0002030201000503010001071102066d656d6f7279020004686f6f6b00030a11010f000340014101410410001a0b42000b\r\nend",
             Status::HookRefused,
             "refused loop guard 0 0\n",
         ),
         (
             "run",
-            "0061736d0100000001130360017f017e60027f7f017f60037f7f7e017e02260303656e76025f67000103656e7606616363657074000203656e7608726f6c6c6261636b0002030201000503010001071102066d656d6f7279020004686f6f6b00030a11010f000340014101410410001a0b42000b",
+            "# a hook\n\nhook 0061736d0100000001130360017f017e60027f7f017f60037f7f7e017e02260303656e76025f67000103656e7606616363657074000203656e7608726f6c6c6261636b0002030201000503010001071102066d656d6f7279020004686f6f6b00030a11010f000340014101410410001a0b42000b\r\nend",
             Status::HookRefused,
             "refused loop guard 0 0\n",
         ),
         (
             "check",
-            "0061736d0100000001130360017f017e60027f7f017f60037f7f7e017e02260303656e76025f67000103656e7606616363657074000203656e7608726f6c6c6261636b0002030201000503010001071102066d656d6f7279020004686f6f6b00030a0d010b000043000000001a42000b",
+            "# a hook\n\nhook 0061736d0100000001130360017f017e60027f7f017f60037f7f7e017e02260303656e76025f67000103656e7606616363657074000203656e7608726f6c6c6261636b0002030201000503010001071102066d656d6f7279020004686f6f6b00030a0d010b000043000000001a42000b\r\nend",
             Status::HookRefused,
             "refused float code 0 1\n",
         ),
+    ];
+    assert_eq!(rt; right_rows(rt.alloc(), &rows)?, 7);
+    Ok(())
+}
+
+#[test]
+fn integers_memory_and_bounds(rt: HostRuntime) -> Result<(), Fail> {
+    let rows: [Row<'_>; 10] = [
         (
             "run",
-            "0061736d0100000001130360017f017e60027f7f017f60037f7f7e017e02260303656e76025f67000103656e7606616363657074000203656e7608726f6c6c6261636b0002030201000503010001071102066d656d6f7279020004686f6f6b00030a10010e00418080808078417f6d1a42000b",
+            "# a hook\n\nhook 0061736d0100000001130360017f017e60027f7f017f60037f7f7e017e02260303656e76025f67000103656e7606616363657074000203656e7608726f6c6c6261636b0002030201000503010001071102066d656d6f7279020004686f6f6b00030a10010e00418080808078417f6d1a42000b\r\nend",
             Status::Done,
             "trapped divide_overflow count 3 bound 6\n",
         ),
         (
             "run",
-            "0061736d0100000001130360017f017e60027f7f017f60037f7f7e017e02260303656e76025f67000103656e7606616363657074000203656e7608726f6c6c6261636b0002030201000503010001071102066d656d6f7279020004686f6f6b00030a0e010c00418080808078417f6fac0b",
+            "# a hook\n\nhook 0061736d0100000001130360017f017e60027f7f017f60037f7f7e017e02260303656e76025f67000103656e7606616363657074000203656e7608726f6c6c6261636b0002030201000503010001071102066d656d6f7279020004686f6f6b00030a0e010c00418080808078417f6fac0b\r\nend",
             Status::Done,
             "returned 0 count 5 bound 5\n",
         ),
         (
             "run",
-            "0061736d0100000001130360017f017e60027f7f017f60037f7f7e017e02260303656e76025f67000103656e7606616363657074000203656e7608726f6c6c6261636b0002030201000503010001071102066d656d6f7279020004686f6f6b00030a0e010c0041fdff032800001a42000b",
+            "# a hook\n\nhook 0061736d0100000001130360017f017e60027f7f017f60037f7f7e017e02260303656e76025f67000103656e7606616363657074000203656e7608726f6c6c6261636b0002030201000503010001071102066d656d6f7279020004686f6f6b00030a0e010c0041fdff032800001a42000b\r\nend",
             Status::Done,
             "trapped memory count 2 bound 5\n",
         ),
         (
             "run",
-            "0061736d0100000001130360017f017e60027f7f017f60037f7f7e017e02260303656e76025f67000103656e7606616363657074000203656e7608726f6c6c6261636b0002030201000503010001071102066d656d6f7279020004686f6f6b00030a0e010c0041fcff032800001a42000b",
+            "# a hook\n\nhook 0061736d0100000001130360017f017e60027f7f017f60037f7f7e017e02260303656e76025f67000103656e7606616363657074000203656e7608726f6c6c6261636b0002030201000503010001071102066d656d6f7279020004686f6f6b00030a0e010c0041fcff032800001a42000b\r\nend",
             Status::Done,
             "returned 0 count 5 bound 5\n",
         ),
         (
             "check",
-            "0061736d0100000001130360017f017e60027f7f017f60037f7f7e017e02260303656e76025f67000103656e7606616363657074000203656e7608726f6c6c6261636b0002030201000503010001071102066d656d6f7279020004686f6f6b00030a170115000340410141a9d50010001a0c000b01010142000b",
+            "# a hook\n\nhook 0061736d0100000001130360017f017e60027f7f017f60037f7f7e017e02260303656e76025f67000103656e7606616363657074000203656e7608726f6c6c6261636b0002030201000503010001071102066d656d6f7279020004686f6f6b00030a170115000340410141a9d50010001a0c000b01010142000b\r\nend",
             Status::Done,
             "ok ecd070d4799258013c6dc3115d8d758862aad14964025dc71888705ac3bc0091 hook 65535 cbak -\n",
         ),
         (
             "check",
-            "0061736d0100000001130360017f017e60027f7f017f60037f7f7e017e02260303656e76025f67000103656e7606616363657074000203656e7608726f6c6c6261636b0002030201000503010001071102066d656d6f7279020004686f6f6b00030a180116000340410141a9d50010001a0c000b0101010142000b",
+            "# a hook\n\nhook 0061736d0100000001130360017f017e60027f7f017f60037f7f7e017e02260303656e76025f67000103656e7606616363657074000203656e7608726f6c6c6261636b0002030201000503010001071102066d656d6f7279020004686f6f6b00030a180116000340410141a9d50010001a0c000b0101010142000b\r\nend",
             Status::HookRefused,
             "refused bound hook 65536\n",
         ),
         (
             "check",
-            "0061736d0100000001130360017f017e60027f7f017f60037f7f7e017e02260303656e76025f67000103656e7606616363657074000203656e7608726f6c6c6261636b0002030201000503010001071803066d656d6f7279020004686f6f6b0003046362616b00030a0c010a0041004100420010010b",
+            "# a hook\n\nhook 0061736d0100000001130360017f017e60027f7f017f60037f7f7e017e02260303656e76025f67000103656e7606616363657074000203656e7608726f6c6c6261636b0002030201000503010001071803066d656d6f7279020004686f6f6b0003046362616b00030a0c010a0041004100420010010b\r\nend",
             Status::Done,
             "ok 550a7d2354d511cfc33b553975b39eb6fe3862a913f848221b7c33bc4f4a6bd0 hook 5 cbak 5\n",
         ),
         (
             "check",
-            "0061736d0100000001130360017f017e60027f7f017f60037f7f7e017e02260303656e76025f67000103656e7606616363657074000203656e7608726f6c6c6261636b0002030201000503010001071102066d656d6f7279020004686f6f6b00030a0601040041000b",
+            "# a hook\n\nhook 0061736d0100000001130360017f017e60027f7f017f60037f7f7e017e02260303656e76025f67000103656e7606616363657074000203656e7608726f6c6c6261636b0002030201000503010001071102066d656d6f7279020004686f6f6b00030a0601040041000b\r\nend",
             Status::HookRefused,
             "refused untyped 0 1\n",
         ),
         (
             "check",
-            "0061736d0100000001130360017f017e60027f7f017f60037f7f7e017e02260303656e76025f67000103656e7606616363657074000203656e7608726f6c6c6261636b0002030201000503010001071202066d656d6f7279020005686f6f6b7300030a0601040042000b",
+            "# a hook\n\nhook 0061736d0100000001130360017f017e60027f7f017f60037f7f7e017e02260303656e76025f67000103656e7606616363657074000203656e7608726f6c6c6261636b0002030201000503010001071202066d656d6f7279020005686f6f6b7300030a0601040042000b\r\nend",
             Status::HookRefused,
             "refused export\n",
         ),
-        ("run", "00", Status::HookRefused, "refused malformed\n"),
+        (
+            "run",
+            "# a hook\n\nhook 00\r\nend",
+            Status::HookRefused,
+            "refused malformed\n",
+        ),
     ];
-    for (word, code, status, text) in rows {
-        let input = format!(in alloc; "# a hook\n\nhook {code}\r\nend")?;
-        for piece in [7usize, 4096] {
-            let (answer, sink) = in_pieces(alloc, word, input.as_bytes(), piece)?;
-            assert_eq!(rt; answer, status, "at {code}");
-            assert_eq!(rt; sink.written(), text.as_bytes(), "at {code}");
-        }
+    assert_eq!(rt; right_rows(rt.alloc(), &rows)?, 10);
+    Ok(())
+}
+
+#[test]
+fn refusals_have_their_texts(rt: HostRuntime) -> Result<(), Fail> {
+    let alloc = rt.alloc();
+    let rows = [
+        (CheckFault::TooLong, "refused too long\n"),
+        (CheckFault::Malformed, "refused malformed\n"),
+        (
+            CheckFault::Rule(RuleFault::FloatType { index: 0 }),
+            "refused float type 0\n",
+        ),
+        (
+            CheckFault::Rule(RuleFault::FloatGlobal { index: 1 }),
+            "refused float global 1\n",
+        ),
+        (
+            CheckFault::Rule(RuleFault::FloatLocals { func: 2 }),
+            "refused float locals 2\n",
+        ),
+        (
+            CheckFault::Rule(RuleFault::FloatCode { func: 3, op: 4 }),
+            "refused float code 3 4\n",
+        ),
+        (
+            CheckFault::Rule(RuleFault::BadImport { index: 5 }),
+            "refused import 5\n",
+        ),
+        (
+            CheckFault::Rule(RuleFault::BadType { index: 6 }),
+            "refused type 6\n",
+        ),
+        (
+            CheckFault::Rule(RuleFault::BadFunction { func: 7 }),
+            "refused function 7\n",
+        ),
+        (CheckFault::Rule(RuleFault::BadTable), "refused table\n"),
+        (CheckFault::Rule(RuleFault::BadMemory), "refused memory\n"),
+        (
+            CheckFault::Rule(RuleFault::BadGlobal { index: 8 }),
+            "refused global 8\n",
+        ),
+        (CheckFault::Rule(RuleFault::BadExport), "refused export\n"),
+        (CheckFault::Rule(RuleFault::Start), "refused start\n"),
+        (CheckFault::Rule(RuleFault::Elements), "refused elements\n"),
+        (
+            CheckFault::Rule(RuleFault::BadData { index: 9 }),
+            "refused segment 9\n",
+        ),
+        (
+            CheckFault::Rule(RuleFault::TooManyLocals { func: 10 }),
+            "refused locals 10\n",
+        ),
+        (
+            CheckFault::Rule(RuleFault::IndirectCall { func: 0, op: 11 }),
+            "refused indirect 0 11\n",
+        ),
+        (
+            CheckFault::Rule(RuleFault::Grow { func: 1, op: 12 }),
+            "refused grow 1 12\n",
+        ),
+        (
+            CheckFault::Rule(RuleFault::OwnCall { func: 2, op: 13 }),
+            "refused own call 2 13\n",
+        ),
+        (
+            CheckFault::Rule(RuleFault::GuardNotConstant { func: 3, op: 14 }),
+            "refused guard constant 3 14\n",
+        ),
+        (
+            CheckFault::Rule(RuleFault::LoopWithoutGuard {
+                func: 4,
+                op: 4294967295,
+            }),
+            "refused loop guard 4 4294967295\n",
+        ),
+        (
+            CheckFault::Untyped { func: 5, op: 6 },
+            "refused untyped 5 6\n",
+        ),
+        (
+            CheckFault::BoundTooLarge {
+                export: Export::Hook,
+                bound: 65536,
+            },
+            "refused bound hook 65536\n",
+        ),
+        (
+            CheckFault::BoundTooLarge {
+                export: Export::Cbak,
+                bound: 18446744073709551615,
+            },
+            "refused bound cbak 18446744073709551615\n",
+        ),
+    ];
+    for (fault, text) in rows {
+        assert_eq!(rt; refused_line(alloc, fault)?.as_str(), text);
     }
     Ok(())
 }
@@ -244,9 +384,8 @@ fn long_codes_are_refused(rt: HostRuntime) -> Result<(), Fail> {
 }
 
 #[test]
-fn lines_are_answered_as_their_rules_say(rt: HostRuntime) -> Result<(), Fail> {
-    let alloc = rt.alloc();
-    let rows = [
+fn payments_are_replayed(rt: HostRuntime) -> Result<(), Fail> {
+    let rows: [Row<'_>; 6] = [
         (
             "replay",
             "account A 20000000 1\naccount B 10000000 1\nledger 5 100 O\ntx good 12000024000000016140000000000f424068400000000000000a73008114A8314B\ntx good 12000024000000016140000000000f424068400000000000000a73008114A8314B\nend\n",
@@ -283,6 +422,14 @@ fn lines_are_answered_as_their_rules_say(rt: HostRuntime) -> Result<(), Fail> {
             Status::Done,
             "final total 0 burnt 0\ndone\n",
         ),
+    ];
+    assert_eq!(rt; right_rows(rt.alloc(), &rows)?, 6);
+    Ok(())
+}
+
+#[test]
+fn lines_of_a_wrong_word_or_shape(rt: HostRuntime) -> Result<(), Fail> {
+    let rows: [Row<'_>; 10] = [
         ("replay", "", Status::BadInput, "bad 1 no_end\n"),
         ("replay", "\r", Status::BadInput, "bad 2 no_end\n"),
         ("replay", "# only\n\n", Status::BadInput, "bad 3 no_end\n"),
@@ -303,6 +450,14 @@ fn lines_are_answered_as_their_rules_say(rt: HostRuntime) -> Result<(), Fail> {
         ("replay", " end\n", Status::BadInput, "bad 1 bad_word\n"),
         ("replay", "End\n", Status::BadInput, "bad 1 bad_word\n"),
         ("replay", "ending\n", Status::BadInput, "bad 1 bad_word\n"),
+    ];
+    assert_eq!(rt; right_rows(rt.alloc(), &rows)?, 10);
+    Ok(())
+}
+
+#[test]
+fn lines_of_a_wrong_shape(rt: HostRuntime) -> Result<(), Fail> {
+    let rows: [Row<'_>; 10] = [
         ("replay", "end \n", Status::BadInput, "bad 1 bad_shape\n"),
         ("replay", "account\n", Status::BadInput, "bad 1 bad_shape\n"),
         (
@@ -353,6 +508,14 @@ fn lines_are_answered_as_their_rules_say(rt: HostRuntime) -> Result<(), Fail> {
             Status::BadInput,
             "bad 1 bad_shape\n",
         ),
+    ];
+    assert_eq!(rt; right_rows(rt.alloc(), &rows)?, 10);
+    Ok(())
+}
+
+#[test]
+fn lines_out_of_order(rt: HostRuntime) -> Result<(), Fail> {
+    let rows: [Row<'_>; 10] = [
         (
             "replay",
             "tx good 0\n",
@@ -413,6 +576,14 @@ fn lines_are_answered_as_their_rules_say(rt: HostRuntime) -> Result<(), Fail> {
             Status::BadInput,
             "ledger 5\ntx 1 unparsed fee 0\nbad 3 bad_shape\n",
         ),
+    ];
+    assert_eq!(rt; right_rows(rt.alloc(), &rows)?, 10);
+    Ok(())
+}
+
+#[test]
+fn lines_of_one_hook(rt: HostRuntime) -> Result<(), Fail> {
+    let rows: [Row<'_>; 14] = [
         ("run", "", Status::BadInput, "bad 1 no_end\n"),
         ("run", "hook 00\n", Status::BadInput, "bad 2 no_end\n"),
         ("run", "end\n", Status::BadInput, "bad 1 bad_order\n"),
@@ -458,15 +629,7 @@ fn lines_are_answered_as_their_rules_say(rt: HostRuntime) -> Result<(), Fail> {
             "refused malformed\n",
         ),
     ];
-    for (word, input, status, text) in rows {
-        let bytes = spelled(alloc, input)?;
-        let wanted = spelled(alloc, text)?;
-        for piece in [1usize, 7, 64, 4096] {
-            let (answer, sink) = in_pieces(alloc, word, bytes.as_slice(), piece)?;
-            assert_eq!(rt; answer, status, "at {input}");
-            assert_eq!(rt; sink.written(), wanted.as_slice(), "at {input}");
-        }
-    }
+    assert_eq!(rt; right_rows(rt.alloc(), &rows)?, 14);
     Ok(())
 }
 
