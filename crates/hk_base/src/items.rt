@@ -47,6 +47,11 @@ impl<T> Items<T> {
         items
     }
 
+    /// The allocator that the list takes its memory from.
+    pub fn allocator(&self) -> Global {
+        *self.items.allocator()
+    }
+
     pub fn as_slice(&self) -> &[T]
         ensures items { result.now ≡ self.now }
     {
