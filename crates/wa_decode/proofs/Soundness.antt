@@ -128,8 +128,8 @@ import_sound i bytes s h =
     let c : IsBytes (h.3.0 ++ h.3.1) = subst IsBytes h.3.4 (bytes_behind h.0 h.1 b) in
     record { from = counted_bytes i.module h.0 (bytes_front h.0 h.1 b) h.2; name = counted_bytes i.name h.3.0 (bytes_front h.3.0 h.3.1 c) h.3.2 }
 
-global_sound : (g : ModuleGlobal) (bytes : List ℕ) → IsShort bytes → SpellsGlobal g bytes → IsSoundCode g.init
-global_sound g bytes s h = code_sound g.init h.1 (short_behind bytes h.0 h.1 s h.4) h.3
+global_sound : (g : ModuleGlobal) (bytes : List ℕ) → IsShort bytes → SpellsGlobal g bytes → AreSound IsSoundOp g.init
+global_sound g bytes s h = (code_sound g.init h.1 (short_behind bytes h.0 h.1 s h.4) h.3).sound
 
 export_sound : (e : ModuleExport) (bytes : List ℕ) → IsShort bytes → SpellsExport e bytes → IsSoundExport e
 export_sound e bytes s h = record { name = counted_bytes e.name h.0 (bytes_front h.0 h.1 (subst IsBytes h.4 s.bytes_all)) h.2; kind = h.3.2.0 }
@@ -138,7 +138,7 @@ element_sound : (e : Element) (bytes : List ℕ) → IsShort bytes → SpellsEle
 element_sound e bytes s h =
     let behind = short_behind bytes h.0 h.1 s h.4 in
     let last = short_behind h.1 h.3.0 h.3.1 behind h.3.4 in
-    record { offset = code_sound e.offset h.3.0 (short_front h.1 h.3.0 h.3.1 behind h.3.4) h.3.2; functions = counted_vector _ e.functions h.3.1 last.bytes_all h.3.3 }
+    record { offset = (code_sound e.offset h.3.0 (short_front h.1 h.3.0 h.3.1 behind h.3.4) h.3.2).sound; functions = counted_vector _ e.functions h.3.1 last.bytes_all h.3.3 }
 
 body_sound : (c : Code) (bytes : List ℕ) → IsShort bytes → SpellsCode c bytes → IsSoundBody c
 body_sound c bytes s h =
@@ -150,7 +150,7 @@ segment_sound : (g : Segment) (bytes : List ℕ) → IsShort bytes → SpellsSeg
 segment_sound g bytes s h =
     let behind = short_behind bytes h.0 h.1 s h.4 in
     let last = short_behind h.1 h.3.0 h.3.1 behind h.3.4 in
-    record { offset = code_sound g.offset h.3.0 (short_front h.1 h.3.0 h.3.1 behind h.3.4) h.3.2; bytes = counted_bytes g.bytes h.3.1 last.bytes_all h.3.3 }
+    record { offset = (code_sound g.offset h.3.0 (short_front h.1 h.3.0 h.3.1 behind h.3.4) h.3.2).sound; bytes = counted_bytes g.bytes h.3.1 last.bytes_all h.3.3 }
 
 -- ---- sections
 
@@ -188,7 +188,7 @@ module_sound m bytes b h =
       functions = list_counted (IsUnsigned 32) 3 m.functions h.sections short p.functions;
       tables = list_counted SpellsTable 4 m.tables h.sections short p.tables;
       memories = list_counted SpellsLimits 5 m.memories h.sections short p.memories;
-      globals = list_sound SpellsGlobal (λ g. IsSoundCode g.init) global_sound 6 m.globals h.sections short p.globals;
+      globals = list_sound SpellsGlobal (λ g. AreSound IsSoundOp g.init) global_sound 6 m.globals h.sections short p.globals;
       exports = list_sound SpellsExport IsSoundExport export_sound 7 m.exports h.sections short p.exports;
       elements = list_sound SpellsElement IsSoundElement element_sound 9 m.elements h.sections short p.elements;
       codes = list_sound SpellsCode IsSoundBody body_sound 10 m.codes h.sections short p.codes;

@@ -53,7 +53,7 @@ pub record IsSoundExport (e : ModuleExport) : Type 0 where
   pub kind : e.kind ≤ 3
 
 pub record IsSoundElement (e : Element) : Type 0 where
-  pub offset : IsSoundCode e.offset
+  pub offset : AreSound IsSoundOp e.offset
   pub functions : IsCounted e.functions
 
 pub record IsSoundBody (c : Code) : Type 0 where
@@ -61,7 +61,7 @@ pub record IsSoundBody (c : Code) : Type 0 where
   pub ops : IsSoundCode c.ops
 
 pub record IsSoundSegment (s : Segment) : Type 0 where
-  pub offset : IsSoundCode s.offset
+  pub offset : AreSound IsSoundOp s.offset
   pub bytes : IsCounted s.bytes
 
 pub record IsSound (m : Module) : Type 0 where
@@ -70,7 +70,7 @@ pub record IsSound (m : Module) : Type 0 where
   pub functions : IsCounted m.functions
   pub tables : IsCounted m.tables
   pub memories : IsCounted m.memories
-  pub globals : AreSound (λ g. IsSoundCode g.init) m.globals
+  pub globals : AreSound (λ g. AreSound IsSoundOp g.init) m.globals
   pub exports : AreSound IsSoundExport m.exports
   pub elements : AreSound IsSoundElement m.elements
   pub codes : AreSound IsSoundBody m.codes

@@ -23,7 +23,7 @@ pub enum RuleFault {
     BadTable,
     /// More than one memory, or one whose sizes are too large or out of order.
     BadMemory,
-    /// A global that doesn't begin as one constant of its type.
+    /// A global whose value isn't one constant of its type.
     BadGlobal { index: u32 },
     /// An export that is given twice or names nothing, a function under another name than `hook` and `cbak`,
     /// one of these two that is no defined function from i32 to i64, or no `hook`.
