@@ -1,5 +1,5 @@
-pub mod Accepting
 pub mod Guarding
 pub mod Refusing
 pub mod Ruled
 pub mod Summing
+pub mod Verdicts

@@ -31,3 +31,7 @@ EntryTypes = (m : Module) (func : ℕ) → IsRuled m
 -- no accepted code is refused
 abbrev pub OneVerdict : Type 0
 OneVerdict = (code : List ℕ) (m : Module) (found : CheckFault) → found ≢ fault.NoMemory → IsHook code m → IsRefused code found → ⊥
+
+-- a refused code is refused in one way
+abbrev pub OneRefusal : Type 0
+OneRefusal = (code : List ℕ) (first second : CheckFault) → IsRefused code first → IsRefused code second → first ≢ fault.NoMemory → second ≢ fault.NoMemory → first ≡ second

@@ -1,4 +1,4 @@
-ghost use Rattle.hk_bound.specs.Laws.{EntryTypes, GuardedLoops, OneVerdict};
+ghost use Rattle.hk_bound.specs.Laws.{EntryTypes, GuardedLoops, OneRefusal, OneVerdict};
 
 /// The law that each loop of a module that meets the rules begins with its guard.
 pub fn guarded_loops()
@@ -13,4 +13,9 @@ pub fn entry_types()
 /// The law that no accepted code is refused.
 pub fn one_verdict()
     ensures law { OneVerdict }
+{}
+
+/// The law that a refused code is refused in one way.
+pub fn one_refusal()
+    ensures law { OneRefusal }
 {}

@@ -12,7 +12,7 @@ pub use bounding::bound;
 pub use checked::Checked;
 pub use checking::check;
 pub use fault::{CheckFault, Export};
-pub use laws::{entry_types, guarded_loops, one_verdict};
+pub use laws::{entry_types, guarded_loops, one_refusal, one_verdict};
 
 #[cfg(test)]
 mod tests;

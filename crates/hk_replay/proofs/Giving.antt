@@ -19,7 +19,7 @@ use Rattle.hk_replay.specs.declared.command.Question.TheVariants.{Check, Run}
 use Rattle.hk_replay.specs.Answers.{IsAccepted, IsRunOf, IsRefusal, Accepts, no_calls, cbak_text, IsReply, Replies, hook_lines, replay_lines, GivesFor, command_of, IsSame, OneAnswer}
 use Rattle.hk_replay.specs.Refusals.{refused_line}
 use Rattle.hk_replay.specs.Moved.{Answered}
-use Rattle.hk_replay.proofs.OneRefusal.{one_refusal, holds_or_refused, one_module_held, one_hash, one_hook_bound, one_cbak_bound}
+use Rattle.hk_bound.proofs.Verdicts.{one_refusal, holds_or_refused, one_module_held, one_hash, one_hook_bound, one_cbak_bound}
 
 -- an accepted code has one line
 accepted_once : (code first second : List ℕ) → IsAccepted code first → IsAccepted code second → first ≡ second

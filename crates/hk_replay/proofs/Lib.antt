@@ -1,6 +1,5 @@
 pub mod Ranges
 pub mod Texts
-pub mod OneRefusal
 pub mod Giving
 pub mod Stopping
 pub mod Conserving

@@ -1,5 +1,5 @@
 -- What the program prints and answers, by its words and the bytes of its input (this project's own).
-use Rattle.std.specs.Prelude.{ℕ, pos, ◌≡◌, ◌≢◌, List, [], ◌∷◌, ◌++◌, codes, if◌then◌else◌, Option, Some, None}
+use Rattle.std.specs.Prelude.{ℕ, pos, ◌≡◌, ◌≢◌, ◌≤◌, List, [], ◌∷◌, ◌++◌, codes, if◌then◌else◌, Option, Some, None}
 use Rattle.std.specs.Fmt.{decimal}
 use Rattle.std.specs.Str.{bytes_eq}
 use Rattle.hk_base.specs.Hexadecimal.{hex_text}
@@ -68,6 +68,10 @@ pub record IsRunOf (code text : List ℕ) : Type 0 where
   pub after : ℕ
   pub run : IsRun no_calls held.wasm is_hook 0 0 outcome count after
   pub line : text ≡ line_text (printed.Run outcome count held.bound_hook)
+
+-- a run's printed count is at most its printed bound
+abbrev pub PrintedCounts : Type 0
+PrintedCounts = (code text : List ℕ) (answer : IsRunOf code text) → answer.count ≤ answer.held.bound_hook
 
 -- the code is refused, and told so
 pub record IsRefusal (code text : List ℕ) : Type 0 where

@@ -15,6 +15,6 @@ mod tests;
 mod words;
 
 pub use hk_lines::Status;
-pub use laws::{hook_folds, one_answer, replay_folds};
+pub use laws::{hook_folds, one_answer, printed_counts, replay_folds};
 pub use program::top;
 pub use status::exit_status;

@@ -1,4 +1,4 @@
-use Rattle.hk_bound.proofs.Accepting.{one_verdict}
+use Rattle.hk_bound.proofs.Verdicts.{one_verdict}
 use Rattle.hk_bound.proofs.laws.one_verdict.Goals as goal
 
 pub returns : goal.returns

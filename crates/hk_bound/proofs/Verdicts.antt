@@ -1,4 +1,4 @@
--- A code is refused in one way, and not where it is accepted.
+-- A code has one verdict: it is refused in one way, and not where it is accepted; and what is held of an accepted code is one.
 use Rattle.std.proofs.Common.{◌≡◌, ◌≢◌, ℕ, ◌+◌, ◌<◌, ◌≤◌, ◌⊎◌, inl, inr, Bool, true, false, List, [], ◌∷◌, length, Option, Some, ap, sym, subst, ◌∙◌, refl, arith, if◌then◌else◌}
 use Rattle.std.proofs.lemmas.Bool.Decides.{leb_tells}
 use Rattle.wa_decode.proofs.ModuleReaders.{one_module}
@@ -13,6 +13,7 @@ use Rattle.wa_ops.specs.Typing.{Typing, leaves, fails, fresh, types, after_regio
 use Rattle.wa_validate.specs.Untyped.{IsUntyped, IsTypedAt, body_of, body_typing}
 use Rattle.hk_bound.specs.Bounds.{export_bound}
 use Rattle.hk_bound.specs.Checks.{most, IsSpelled, AllTyped, IsWithin, IsPast, IsHook, Held, Holds, IsRefused}
+use Rattle.hk_bound.specs.Laws.{OneRefusal, OneVerdict}
 use Rattle.hk_bound.specs.declared.fault.CheckFault.{CheckFault}
 use Rattle.hk_bound.specs.declared.fault.CheckFault.TheVariants as fault
 use Rattle.hk_bound.specs.declared.fault.Export.TheVariants as «export»
@@ -102,21 +103,21 @@ past_or_within is_named m n x within = let fits = within n x.bound in let large 
 module_at : (code : List ℕ) (a b : Module) → IsSpelled code a → IsSpelled code b → a ≡ b
 module_at code a b x y = one_module code a b x.spelled y.spelled
 
-accepted_or_refused : (code : List ℕ) (m : Module) (found : CheckFault) → IsHook code m → IsRefused code found → found ≢ fault.NoMemory → ⊥
-accepted_or_refused code m fault.TooLong x y apart = let short = x.spelled.short in omega (arith, short, y)
-accepted_or_refused code m fault.Malformed x y apart = y.1 m x.spelled.spelled
-accepted_or_refused code m (fault.Rule found) x y apart =
+pub one_verdict : OneVerdict
+one_verdict code m fault.TooLong apart x y = let short = x.spelled.short in omega (arith, short, y)
+one_verdict code m fault.Malformed apart x y = y.1 m x.spelled.spelled
+one_verdict code m (fault.Rule found) apart x y =
     kept_or_first (hook_rules y.wasm) found (subst IsRuled (module_at code m y.wasm x.spelled y.spelled) x.ruled) y.first
-accepted_or_refused code m (fault.Untyped func op) x y apart =
+one_verdict code m (fault.Untyped func op) apart x y =
     untyped_here y.wasm func op y.untyped (subst AllTyped (module_at code m y.wasm x.spelled y.spelled) x.typed func)
-accepted_or_refused code m (fault.BoundTooLarge «export».Hook n) x y apart =
+one_verdict code m (fault.BoundTooLarge «export».Hook n) apart x y =
     past_or_within is_hook y.wasm n y.past (subst (IsWithin is_hook) (module_at code m y.wasm x.spelled y.spelled) x.hook)
-accepted_or_refused code m (fault.BoundTooLarge «export».Cbak n) x y apart =
+one_verdict code m (fault.BoundTooLarge «export».Cbak n) apart x y =
     past_or_within is_cbak y.wasm n y.past (subst (IsWithin is_cbak) (module_at code m y.wasm x.spelled y.spelled) x.cbak)
-accepted_or_refused code m fault.NoMemory x y apart = apart refl
+one_verdict code m fault.NoMemory apart x y = apart refl
 
 pub holds_or_refused : (code : List ℕ) (held : Held) (found : CheckFault) → Holds code held → IsRefused code found → found ≢ fault.NoMemory → ⊥
-holds_or_refused code held found x y apart = accepted_or_refused code held.wasm found x.hook y apart
+holds_or_refused code held found x y apart = one_verdict code held.wasm found apart x.hook y
 
 -- ---- one refusal; the earlier of two excludes the later
 
@@ -133,57 +134,54 @@ short_rule code fault.NoMemory y apart other = absurd (apart refl)
 too_long_first : (code : List ℕ) (found : CheckFault) → most < length code → IsRefused code found → found ≢ fault.NoMemory → found ≢ fault.TooLong → ⊥
 too_long_first code found long y apart other = let short = short_rule code found y apart other in omega (arith, long, short)
 
-one_refused : (code : List ℕ) (a b : CheckFault) → IsRefused code a → IsRefused code b → a ≢ fault.NoMemory → b ≢ fault.NoMemory → a ≡ b
-one_refused code fault.NoMemory b x y p q = absurd (p refl)
-one_refused code a fault.NoMemory x y p q = absurd (q refl)
-one_refused code fault.TooLong fault.TooLong x y p q = refl
-one_refused code fault.TooLong b x y p q = absurd (too_long_first code b x y q (λ e. cc))
-one_refused code a fault.TooLong x y p q = absurd (too_long_first code a y x p (λ e. cc))
-one_refused code fault.Malformed fault.Malformed x y p q = refl
-one_refused code fault.Malformed (fault.Rule found) x y p q = absurd (x.1 y.wasm y.spelled.spelled)
-one_refused code fault.Malformed (fault.Untyped func op) x y p q = absurd (x.1 y.wasm y.spelled.spelled)
-one_refused code fault.Malformed (fault.BoundTooLarge «export».Hook n) x y p q = absurd (x.1 y.wasm y.spelled.spelled)
-one_refused code fault.Malformed (fault.BoundTooLarge «export».Cbak n) x y p q = absurd (x.1 y.wasm y.spelled.spelled)
-one_refused code (fault.Rule found) fault.Malformed x y p q = absurd (y.1 x.wasm x.spelled.spelled)
-one_refused code (fault.Untyped func op) fault.Malformed x y p q = absurd (y.1 x.wasm x.spelled.spelled)
-one_refused code (fault.BoundTooLarge «export».Hook n) fault.Malformed x y p q = absurd (y.1 x.wasm x.spelled.spelled)
-one_refused code (fault.BoundTooLarge «export».Cbak n) fault.Malformed x y p q = absurd (y.1 x.wasm x.spelled.spelled)
-one_refused code (fault.Rule a) (fault.Rule b) x y p q =
+pub one_refusal : OneRefusal
+one_refusal code fault.NoMemory b x y p q = absurd (p refl)
+one_refusal code a fault.NoMemory x y p q = absurd (q refl)
+one_refusal code fault.TooLong fault.TooLong x y p q = refl
+one_refusal code fault.TooLong b x y p q = absurd (too_long_first code b x y q (λ e. cc))
+one_refusal code a fault.TooLong x y p q = absurd (too_long_first code a y x p (λ e. cc))
+one_refusal code fault.Malformed fault.Malformed x y p q = refl
+one_refusal code fault.Malformed (fault.Rule found) x y p q = absurd (x.1 y.wasm y.spelled.spelled)
+one_refusal code fault.Malformed (fault.Untyped func op) x y p q = absurd (x.1 y.wasm y.spelled.spelled)
+one_refusal code fault.Malformed (fault.BoundTooLarge «export».Hook n) x y p q = absurd (x.1 y.wasm y.spelled.spelled)
+one_refusal code fault.Malformed (fault.BoundTooLarge «export».Cbak n) x y p q = absurd (x.1 y.wasm y.spelled.spelled)
+one_refusal code (fault.Rule found) fault.Malformed x y p q = absurd (y.1 x.wasm x.spelled.spelled)
+one_refusal code (fault.Untyped func op) fault.Malformed x y p q = absurd (y.1 x.wasm x.spelled.spelled)
+one_refusal code (fault.BoundTooLarge «export».Hook n) fault.Malformed x y p q = absurd (y.1 x.wasm x.spelled.spelled)
+one_refusal code (fault.BoundTooLarge «export».Cbak n) fault.Malformed x y p q = absurd (y.1 x.wasm x.spelled.spelled)
+one_refusal code (fault.Rule a) (fault.Rule b) x y p q =
     ap (λ found. fault.Rule found) (one_first (hook_rules y.wasm) a b (subst (λ m. IsFirst (hook_rules m) a) (module_at code x.wasm y.wasm x.spelled y.spelled) x.first) y.first)
-one_refused code (fault.Rule a) (fault.Untyped func op) x y p q =
+one_refusal code (fault.Rule a) (fault.Untyped func op) x y p q =
     absurd (kept_or_first (hook_rules x.wasm) a (subst IsRuled (module_at code y.wasm x.wasm y.spelled x.spelled) y.ruled) x.first)
-one_refused code (fault.Rule a) (fault.BoundTooLarge «export».Hook n) x y p q =
+one_refusal code (fault.Rule a) (fault.BoundTooLarge «export».Hook n) x y p q =
     absurd (kept_or_first (hook_rules x.wasm) a (subst IsRuled (module_at code y.wasm x.wasm y.spelled x.spelled) y.ruled) x.first)
-one_refused code (fault.Rule a) (fault.BoundTooLarge «export».Cbak n) x y p q =
+one_refusal code (fault.Rule a) (fault.BoundTooLarge «export».Cbak n) x y p q =
     absurd (kept_or_first (hook_rules x.wasm) a (subst IsRuled (module_at code y.wasm x.wasm y.spelled x.spelled) y.ruled) x.first)
-one_refused code (fault.Untyped func op) (fault.Rule b) x y p q =
+one_refusal code (fault.Untyped func op) (fault.Rule b) x y p q =
     absurd (kept_or_first (hook_rules y.wasm) b (subst IsRuled (module_at code x.wasm y.wasm x.spelled y.spelled) x.ruled) y.first)
-one_refused code (fault.BoundTooLarge «export».Hook n) (fault.Rule b) x y p q =
+one_refusal code (fault.BoundTooLarge «export».Hook n) (fault.Rule b) x y p q =
     absurd (kept_or_first (hook_rules y.wasm) b (subst IsRuled (module_at code x.wasm y.wasm x.spelled y.spelled) x.ruled) y.first)
-one_refused code (fault.BoundTooLarge «export».Cbak n) (fault.Rule b) x y p q =
+one_refusal code (fault.BoundTooLarge «export».Cbak n) (fault.Rule b) x y p q =
     absurd (kept_or_first (hook_rules y.wasm) b (subst IsRuled (module_at code x.wasm y.wasm x.spelled y.spelled) x.ruled) y.first)
-one_refused code (fault.Untyped f i) (fault.Untyped g j) x y p q =
+one_refusal code (fault.Untyped f i) (fault.Untyped g j) x y p q =
     let same = one_untyped y.wasm f i g j (subst (λ m. IsUntyped m f i) (module_at code x.wasm y.wasm x.spelled y.spelled) x.untyped) y.untyped (order f g) in
     ap (λ func. fault.Untyped func i) same.0 ∙ ap (λ op. fault.Untyped g op) same.1
-one_refused code (fault.Untyped f i) (fault.BoundTooLarge «export».Hook n) x y p q =
+one_refusal code (fault.Untyped f i) (fault.BoundTooLarge «export».Hook n) x y p q =
     absurd (untyped_here x.wasm f i x.untyped (subst AllTyped (module_at code y.wasm x.wasm y.spelled x.spelled) y.typed f))
-one_refused code (fault.Untyped f i) (fault.BoundTooLarge «export».Cbak n) x y p q =
+one_refusal code (fault.Untyped f i) (fault.BoundTooLarge «export».Cbak n) x y p q =
     absurd (untyped_here x.wasm f i x.untyped (subst AllTyped (module_at code y.wasm x.wasm y.spelled x.spelled) y.typed f))
-one_refused code (fault.BoundTooLarge «export».Hook n) (fault.Untyped f i) x y p q =
+one_refusal code (fault.BoundTooLarge «export».Hook n) (fault.Untyped f i) x y p q =
     absurd (untyped_here y.wasm f i y.untyped (subst AllTyped (module_at code x.wasm y.wasm x.spelled y.spelled) x.typed f))
-one_refused code (fault.BoundTooLarge «export».Cbak n) (fault.Untyped f i) x y p q =
+one_refusal code (fault.BoundTooLarge «export».Cbak n) (fault.Untyped f i) x y p q =
     absurd (untyped_here y.wasm f i y.untyped (subst AllTyped (module_at code x.wasm y.wasm x.spelled y.spelled) x.typed f))
-one_refused code (fault.BoundTooLarge «export».Hook n) (fault.BoundTooLarge «export».Hook k) x y p q =
+one_refusal code (fault.BoundTooLarge «export».Hook n) (fault.BoundTooLarge «export».Hook k) x y p q =
     ap (λ bound. fault.BoundTooLarge «export».Hook bound) (one_past is_hook y.wasm n k (subst (λ m. IsPast is_hook m n) (module_at code x.wasm y.wasm x.spelled y.spelled) x.past) y.past)
-one_refused code (fault.BoundTooLarge «export».Cbak n) (fault.BoundTooLarge «export».Cbak k) x y p q =
+one_refusal code (fault.BoundTooLarge «export».Cbak n) (fault.BoundTooLarge «export».Cbak k) x y p q =
     ap (λ bound. fault.BoundTooLarge «export».Cbak bound) (one_past is_cbak y.wasm n k (subst (λ m. IsPast is_cbak m n) (module_at code x.wasm y.wasm x.spelled y.spelled) x.past) y.past)
-one_refused code (fault.BoundTooLarge «export».Hook n) (fault.BoundTooLarge «export».Cbak k) x y p q =
+one_refusal code (fault.BoundTooLarge «export».Hook n) (fault.BoundTooLarge «export».Cbak k) x y p q =
     absurd (past_or_within is_hook x.wasm n x.past (subst (IsWithin is_hook) (module_at code y.wasm x.wasm y.spelled x.spelled) y.hook))
-one_refused code (fault.BoundTooLarge «export».Cbak n) (fault.BoundTooLarge «export».Hook k) x y p q =
+one_refusal code (fault.BoundTooLarge «export».Cbak n) (fault.BoundTooLarge «export».Hook k) x y p q =
     absurd (past_or_within is_hook y.wasm k y.past (subst (IsWithin is_hook) (module_at code x.wasm y.wasm x.spelled y.spelled) x.hook))
-
-pub one_refusal : (code : List ℕ) (a b : CheckFault) → IsRefused code a → IsRefused code b → a ≢ fault.NoMemory → b ≢ fault.NoMemory → a ≡ b
-one_refusal = one_refused
 
 -- ---- what is held of an accepted code
 
