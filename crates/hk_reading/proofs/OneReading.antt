@@ -3,10 +3,10 @@ use Rattle.std.proofs.Common.{◌≡◌, ◌≢◌, ℕ, ◌<◌, ◌≤◌, ◌
 use Rattle.std.proofs.lemmas.Bool.Decides.{nat_tests}
 use Rattle.xo_fields.proofs.Cases.{pick}
 use Rattle.xo_object.specs.declared.transaction.Transaction.{Transaction}
-use Rattle.xo_object.specs.Item.{Item}
+use Rattle.xo_list.specs.Item.{Item}
 use Rattle.xo_object.specs.Names.{transaction_type}
 use Rattle.xo_object.specs.Transaction.{IsTransaction, number16}
-use Rattle.xo_object.specs.Value.{IsObject, HasFields}
+use Rattle.xo_list.specs.Value.{IsObject, HasFields}
 use Rattle.hk_reading.specs.declared.reading.Reading.{Reading}
 use Rattle.hk_reading.specs.declared.reading.Reading.TheVariants as readings
 use Rattle.std.specs.declared.alloc.AllocError.{AllocError}

@@ -9,7 +9,7 @@ use Rattle.xo_fields.specs.declared.amount.Amount.TheVariants.{Native, Issued}
 use Rattle.xo_object.specs.declared.transaction.HookItem.{HookItem}
 use Rattle.xo_object.specs.declared.transaction.Parameter.{Parameter}
 use Rattle.xo_object.specs.declared.transaction.Transaction.{Transaction}
-use Rattle.xo_object.specs.Item.{Item, lookup}
+use Rattle.xo_list.specs.Item.{Item, lookup}
 use Rattle.xo_object.specs.Names as names
 use Rattle.xo_object.specs.Transaction.{number16, number32, IsAmountOf, IsPositive, PaymentIs, HooksFor, HooksAre, EmissionIs, IsTransaction, or_empty}
 use Rattle.hk_reading.specs.Amounts.{amount_of}

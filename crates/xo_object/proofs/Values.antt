@@ -14,15 +14,15 @@ use Rattle.std.specs.Option.{option_map}
 use Rattle.xo_object.specs.Transaction.{IsAmountOf, PaymentIs}
 use Rattle.std.proofs.lemmas.List.{take-append-drop}
 use Rattle.xo_fields.specs.Form.{form_at}
-use Rattle.xo_object.specs.declared.fault.ObjectFault.{ObjectFault}
-use Rattle.xo_object.specs.declared.skip.Place.TheVariants.{Fields}
-use Rattle.xo_object.specs.Item.{Item, lookup, is_same}
-use Rattle.xo_object.specs.Fault.{ends, fails, IsFault}
-use Rattle.xo_object.specs.Laws.{OneReading}
-use Rattle.xo_object.specs.List.{ListFits}
-use Rattle.xo_object.specs.Value.{IsValue, IsObject, HasFields}
-use Rattle.xo_object.proofs.ListLemmas.{listed}
-use Rattle.xo_object.proofs.Parts.{asks_less}
+use Rattle.xo_list.specs.declared.fault.ObjectFault.{ObjectFault}
+use Rattle.xo_list.specs.declared.skip.Place.TheVariants.{Fields}
+use Rattle.xo_list.specs.Item.{Item, lookup, is_same}
+use Rattle.xo_list.specs.Fault.{ends, fails, IsFault}
+use Rattle.xo_list.specs.Laws.{OneReading}
+use Rattle.xo_list.specs.List.{ListFits}
+use Rattle.xo_list.specs.Value.{IsValue, IsObject, HasFields}
+use Rattle.xo_list.proofs.ListLemmas.{listed}
+use Rattle.xo_list.proofs.Parts.{asks_less}
 
 abbrev pub account_id : List ℕ → AccountId
 account_id bytes = record { 0 = bytes }

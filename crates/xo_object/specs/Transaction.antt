@@ -14,9 +14,9 @@ use Rattle.xo_object.specs.declared.transaction.HookItem.{HookItem}
 use Rattle.xo_object.specs.declared.transaction.HookItem.TheVariants.{Noop, DeleteNamespace, Delete, Create, Install, Update}
 use Rattle.xo_object.specs.declared.transaction.Parameter.{Parameter}
 use Rattle.xo_object.specs.declared.transaction.Transaction.{Transaction}
-use Rattle.xo_object.specs.Item.{Item, lookup, is_same}
+use Rattle.xo_list.specs.Item.{Item, lookup, is_same}
 use Rattle.xo_object.specs.Names as names
-use Rattle.xo_object.specs.Value.{IsObject, IsArray}
+use Rattle.xo_list.specs.Value.{IsObject, IsArray}
 
 -- numbers, hashes and accounts that a list of fields has
 abbrev pub number16 : FieldId → List Item → Option ℕ

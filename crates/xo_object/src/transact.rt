@@ -3,15 +3,18 @@ ghost use Rattle.std.specs.Prelude.{◌≡◌, ◌<◌, ◌||◌, ◌==◌, ◌�
 ghost use Rattle.xo_fields.specs.declared.amount.Amount.TheVariants.{Native};
 ghost use Rattle.xo_object.specs.declared.transaction.HookItem.{HookItem};
 ghost use Rattle.xo_object.specs.declared.transaction.Transaction.{Transaction};
-ghost use Rattle.xo_object.specs.Item.{lookup};
+ghost use Rattle.xo_list.specs.Item.{lookup};
 ghost use Rattle.xo_object.specs.Names.{transaction_type, fee, hooks, emit_details};
-ghost use Rattle.xo_object.specs.Span.{items};
+ghost use Rattle.xo_list.specs.Span.{items};
 ghost use Rattle.xo_object.specs.Transaction.{IsTransaction, IsAmountOf, IsPositive, PaymentIs, HooksAre, EmissionIs, DetailsAre, DetailsIn, number16};
 
 use crate::hooks::{parameters_or_none, read_hooks};
-use crate::laws::one_reading;
 use crate::lists::{copied, given_parameters};
-use crate::object::Object;
+use crate::names::{
+    ACCOUNT, AMOUNT, DELIVER_MIN, DESTINATION, EMIT_BURDEN, EMIT_CALLBACK, EMIT_DETAILS,
+    EMIT_GENERATION, EMIT_HOOK_HASH, EMIT_NONCE, EMIT_PARENT, FEE, FIRST_LEDGER_SEQUENCE, HOOKS,
+    LAST_LEDGER_SEQUENCE, SEND_MAX, SEQUENCE, SIGNING_PUB_KEY, TRANSACTION_TYPE,
+};
 use crate::reading::{
     TransactionFault, account_at, amount_at, has_only, nested_object, number16_at, number32_at,
     number64_at,
@@ -20,44 +23,7 @@ use crate::transaction::{HookItem, Transaction};
 use hk_base::{AccountId, Items, tx_id};
 use std::alloc::Global;
 use xo_fields::{Amount, FieldId, one_amount};
-
-const TRANSACTION_TYPE: FieldId = FieldId { kind: 1, code: 2 };
-
-const SEQUENCE: FieldId = FieldId { kind: 2, code: 4 };
-
-const FIRST_LEDGER_SEQUENCE: FieldId = FieldId { kind: 2, code: 26 };
-
-const LAST_LEDGER_SEQUENCE: FieldId = FieldId { kind: 2, code: 27 };
-
-const EMIT_GENERATION: FieldId = FieldId { kind: 2, code: 46 };
-
-const EMIT_BURDEN: FieldId = FieldId { kind: 3, code: 13 };
-
-const EMIT_PARENT: FieldId = FieldId { kind: 5, code: 11 };
-
-const EMIT_NONCE: FieldId = FieldId { kind: 5, code: 12 };
-
-const EMIT_HOOK_HASH: FieldId = FieldId { kind: 5, code: 13 };
-
-const AMOUNT: FieldId = FieldId { kind: 6, code: 1 };
-
-const FEE: FieldId = FieldId { kind: 6, code: 8 };
-
-const SEND_MAX: FieldId = FieldId { kind: 6, code: 9 };
-
-const DELIVER_MIN: FieldId = FieldId { kind: 6, code: 10 };
-
-const SIGNING_PUB_KEY: FieldId = FieldId { kind: 7, code: 3 };
-
-const ACCOUNT: FieldId = FieldId { kind: 8, code: 1 };
-
-const DESTINATION: FieldId = FieldId { kind: 8, code: 3 };
-
-const EMIT_CALLBACK: FieldId = FieldId { kind: 8, code: 10 };
-
-const EMIT_DETAILS: FieldId = FieldId { kind: 14, code: 13 };
-
-const HOOKS: FieldId = FieldId { kind: 15, code: 11 };
+use xo_list::{Object, one_reading};
 
 /// Payments.
 const PAYMENT: u16 = 0;

@@ -1,4 +1,4 @@
-use Rattle.xo_object.proofs.Building.{never_true}
+use Rattle.xo_list.proofs.Building.{never_true}
 use Rattle.xo_object.proofs.Values.{same_account, same_amount, number_same, paid_same}
 use Rattle.xo_object.proofs.transact.read_transaction.Goals as goal
 
