@@ -55,7 +55,7 @@ module _ (bytes : List ℕ) (fits : length bytes ≤ longest) where
     where
       there : ((number16 transaction_type fields ≡ Some 22) ⊎ ((t : Transaction) → IsTransaction fields bytes false t → ⊥)) → (found : Option Transaction) → transaction_of fields bytes ≡ found → found ≡ None
       there wrong None e = refl
-      there (inl kind) (Some t) e = let is : IsTransaction fields bytes false t × (t.kind ≢ 22) = (transaction_found fields bytes).sound t e in absurd (is.1 (same_kind (number16 transaction_type fields) t.kind 22 is.0.kind kind))
+      there (inl kind) (Some t) e = let is : IsTransaction fields bytes false t × (t.kind ≢ 22) = (transaction_found fields bytes).sound t e in absurd (is.1 (same_kind (number16 transaction_type fields) t.kind 22 is.0.common.kind_is kind))
       there (inr never) (Some t) e = let is : IsTransaction fields bytes false t × (t.kind ≢ 22) = (transaction_found fields bytes).sound t e in absurd (never t is.0)
 
   unparsed_only : (HasFields bytes → ⊥) → (found : Option (List Item)) → fields_of bytes ≡ found → found ≡ None

@@ -5,6 +5,7 @@ mod hooks;
 mod lists;
 mod names;
 mod reading;
+mod terms;
 mod transact;
 mod transaction;
 
