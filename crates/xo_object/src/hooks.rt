@@ -227,9 +227,11 @@ fn create_of(alloc: Global, object: &Object, code: &[u8]) -> Result<HookItem, Tr
             }
         }
     }
-    let terms = terms_of(alloc, object)?;
     let code = copied(alloc, code)?;
-    Ok(terms.create(code, 0))
+    match terms_of(alloc, object) {
+        Err(fault) => Err(fault),
+        Ok(terms) => Ok(terms.create(code, 0)),
+    }
 }
 
 fn install_of(alloc: Global, object: &Object) -> Result<HookItem, TransactionFault>
@@ -253,8 +255,10 @@ fn install_of(alloc: Global, object: &Object) -> Result<HookItem, TransactionFau
         None => return Err(TransactionFault::Malformed),
         Some(hash) => hash,
     };
-    let terms = terms_of(alloc, object)?;
-    Ok(terms.install(hash))
+    match terms_of(alloc, object) {
+        Err(fault) => Err(fault),
+        Ok(terms) => Ok(terms.install(hash)),
+    }
 }
 
 /// What the fields of an item that installs a hook say of it besides its code.
