@@ -32,13 +32,13 @@ module _ (bytes : List ℕ) (fits : length bytes ≤ longest) where
 
       at : (kind : ℕ) → number16 transaction_type fields ≡ Some kind → (kind ≡ 22) ⊎ (kind ≢ 22) → (number16 transaction_type fields ≡ Some 22) ⊎ ((t : Transaction) → IsTransaction fields bytes false t → ⊥)
       at kind e (inl same) = inl (e ∙ ap Some same)
-      at kind e (inr other) = inr (λ t is. never t is (λ h. other (same_kind (number16 transaction_type fields) kind t.kind e is.kind ∙ h)))
+      at kind e (inr other) = inr (λ t is. never t is (λ h. other (same_kind (number16 transaction_type fields) kind t.kind e is.common.kind_is ∙ h)))
 
       either_way : (kind : ℕ) → (kind ≡ 22) ⊎ (kind ≢ 22)
       either_way kind = grind arith
 
       there : (kind : Option ℕ) → number16 transaction_type fields ≡ kind → (number16 transaction_type fields ≡ Some 22) ⊎ ((t : Transaction) → IsTransaction fields bytes false t → ⊥)
-      there None e = inr (λ t is. none_some t.kind (sym e ∙ is.kind))
+      there None e = inr (λ t is. none_some t.kind (sym e ∙ is.common.kind_is))
       there (Some kind) e = at kind e (either_way kind)
 
   transaction_reads : (fields : List Item) (found : Option Transaction) → IsObject fields bytes → transaction_of fields bytes ≡ found → Reads bytes (of_transaction found)
