@@ -9,8 +9,8 @@ use Rattle.xo_fields.specs.Amount.{IsAmount}
 use Rattle.xo_fields.specs.Field.{number}
 use Rattle.xo_fields.specs.Form.{form_at}
 use Rattle.xo_fields.specs.Header.{header}
-use Rattle.xo_object.specs.Item.{Item, body, body_of, spell}
-use Rattle.xo_object.specs.Value.{Head, Stands, Goes, Whole, IsValue, IsObject, IsArray}
+use Rattle.xo_list.specs.Item.{Item, body, body_of, spell}
+use Rattle.xo_list.specs.Value.{Head, Stands, Goes, Whole, IsValue, IsObject, IsArray}
 use Rattle.hk_reading.specs.Amounts.{only_if, amount_size}
 use Rattle.hk_reading.specs.Parsing.{Found, money, marked, item_of, item_at, and_on, items_at, all_at, value_at, whole, fields_of, elements_of}
 use Rattle.hk_reading.proofs.AmountsFound.{is_amount_so, amount_size_again}

@@ -17,7 +17,7 @@ use Rattle.xo_fields.specs.Length.{prefix}
 use Rattle.xo_fields.specs.Table.{header_at, length_at, found}
 use Rattle.xo_fields.proofs.HeaderBytes.{header_again}
 use Rattle.xo_fields.proofs.LengthBytes.{length_again}
-use Rattle.xo_object.specs.Value.{Allowed, Head}
+use Rattle.xo_list.specs.Value.{Allowed, Head}
 use Rattle.hk_reading.specs.Parsing.{is_field, is_allowed, head_of, fixed, sized}
 use Rattle.hk_reading.proofs.Finding.{Finds, none_some, finds_one, finds_if, finds_map, nat_same, nat_below, nat_up_to, lists_same}
 

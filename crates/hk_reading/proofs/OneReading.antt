@@ -3,10 +3,10 @@ use Rattle.std.proofs.Common.{◌≡◌, ◌≢◌, ℕ, ◌<◌, ◌≤◌, ◌
 use Rattle.std.proofs.lemmas.Bool.Decides.{nat_tests}
 use Rattle.xo_fields.proofs.Cases.{pick}
 use Rattle.xo_object.specs.declared.transaction.Transaction.{Transaction}
-use Rattle.xo_object.specs.Item.{Item}
+use Rattle.xo_list.specs.Item.{Item}
 use Rattle.xo_object.specs.Names.{transaction_type}
 use Rattle.xo_object.specs.Transaction.{IsTransaction, number16}
-use Rattle.xo_object.specs.Value.{IsObject, HasFields}
+use Rattle.xo_list.specs.Value.{IsObject, HasFields}
 use Rattle.hk_reading.specs.declared.reading.Reading.{Reading}
 use Rattle.hk_reading.specs.declared.reading.Reading.TheVariants as readings
 use Rattle.std.specs.declared.alloc.AllocError.{AllocError}
@@ -32,13 +32,13 @@ module _ (bytes : List ℕ) (fits : length bytes ≤ longest) where
 
       at : (kind : ℕ) → number16 transaction_type fields ≡ Some kind → (kind ≡ 22) ⊎ (kind ≢ 22) → (number16 transaction_type fields ≡ Some 22) ⊎ ((t : Transaction) → IsTransaction fields bytes false t → ⊥)
       at kind e (inl same) = inl (e ∙ ap Some same)
-      at kind e (inr other) = inr (λ t is. never t is (λ h. other (same_kind (number16 transaction_type fields) kind t.kind e is.kind ∙ h)))
+      at kind e (inr other) = inr (λ t is. never t is (λ h. other (same_kind (number16 transaction_type fields) kind t.kind e is.common.kind_is ∙ h)))
 
       either_way : (kind : ℕ) → (kind ≡ 22) ⊎ (kind ≢ 22)
       either_way kind = grind arith
 
       there : (kind : Option ℕ) → number16 transaction_type fields ≡ kind → (number16 transaction_type fields ≡ Some 22) ⊎ ((t : Transaction) → IsTransaction fields bytes false t → ⊥)
-      there None e = inr (λ t is. none_some t.kind (sym e ∙ is.kind))
+      there None e = inr (λ t is. none_some t.kind (sym e ∙ is.common.kind_is))
       there (Some kind) e = at kind e (either_way kind)
 
   transaction_reads : (fields : List Item) (found : Option Transaction) → IsObject fields bytes → transaction_of fields bytes ≡ found → Reads bytes (of_transaction found)
@@ -55,7 +55,7 @@ module _ (bytes : List ℕ) (fits : length bytes ≤ longest) where
     where
       there : ((number16 transaction_type fields ≡ Some 22) ⊎ ((t : Transaction) → IsTransaction fields bytes false t → ⊥)) → (found : Option Transaction) → transaction_of fields bytes ≡ found → found ≡ None
       there wrong None e = refl
-      there (inl kind) (Some t) e = let is : IsTransaction fields bytes false t × (t.kind ≢ 22) = (transaction_found fields bytes).sound t e in absurd (is.1 (same_kind (number16 transaction_type fields) t.kind 22 is.0.kind kind))
+      there (inl kind) (Some t) e = let is : IsTransaction fields bytes false t × (t.kind ≢ 22) = (transaction_found fields bytes).sound t e in absurd (is.1 (same_kind (number16 transaction_type fields) t.kind 22 is.0.common.kind_is kind))
       there (inr never) (Some t) e = let is : IsTransaction fields bytes false t × (t.kind ≢ 22) = (transaction_found fields bytes).sound t e in absurd (never t is.0)
 
   unparsed_only : (HasFields bytes → ⊥) → (found : Option (List Item)) → fields_of bytes ≡ found → found ≡ None

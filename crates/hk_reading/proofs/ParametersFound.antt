@@ -5,10 +5,10 @@ use Rattle.std.specs.Option.{option_and_then}
 use Rattle.std.proofs.lemmas.Bool.Decides.{Decides-and, Decides-not, Decides-like}
 use Rattle.xo_fields.specs.declared.field.FieldId.{FieldId}
 use Rattle.xo_object.specs.declared.transaction.Parameter.{Parameter}
-use Rattle.xo_object.specs.Item.{Item, lookup, is_same}
+use Rattle.xo_list.specs.Item.{Item, lookup, is_same}
 use Rattle.xo_object.specs.Names as names
 use Rattle.xo_object.specs.Transaction.{only, Each, IsElement, ParameterIs, Differs, AllDiffer, AreParameters, Given, or_empty}
-use Rattle.xo_object.specs.Value.{IsObject, IsArray}
+use Rattle.xo_list.specs.Value.{IsObject, IsArray}
 use Rattle.hk_reading.specs.Parsing.{fields_of, elements_of}
 use Rattle.hk_reading.specs.Transactions.{bytes_in, parameter_guess, is_parameter, parameter_of, parameter_in, made_of, differs, all_differ, differing, parameters_among, parameters_of}
 use Rattle.hk_reading.proofs.FieldsFound.{fields_found, elements_found}

@@ -9,7 +9,7 @@ use Rattle.xo_fields.specs.declared.amount.Amount.TheVariants.{Native, Issued}
 use Rattle.xo_object.specs.declared.transaction.HookItem.{HookItem}
 use Rattle.xo_object.specs.declared.transaction.Parameter.{Parameter}
 use Rattle.xo_object.specs.declared.transaction.Transaction.{Transaction}
-use Rattle.xo_object.specs.Item.{Item, lookup}
+use Rattle.xo_list.specs.Item.{Item, lookup}
 use Rattle.xo_object.specs.Names as names
 use Rattle.xo_object.specs.Transaction.{number16, number32, IsAmountOf, IsPositive, PaymentIs, HooksFor, HooksAre, EmissionIs, IsTransaction, or_empty}
 use Rattle.hk_reading.specs.Amounts.{amount_of}
@@ -146,18 +146,22 @@ guess_there : (fields : List Item) (bytes : List ℕ) (parameters : List Paramet
 guess_there fields bytes parameters (given, are, same) (kind, (account, (sequence, (fee, key)))) (taken, (amount, (payment, sent))) =
     let t : Transaction = guess fields bytes parameters in (
       record {
-        kind = some_value (number16 names.transaction_type fields) 0 kind;
-        known = taken_known t.kind taken;
-        account = some_value (lookup names.account fields) [] account;
-        sequence = some_value (number32 names.sequence fields) 0 sequence;
-        fee = fee_there (lookup names.fee fields) fee;
-        key = key;
-        destination = destination_there (lookup names.destination fields);
+        common = record {
+          kind_is = some_value (number16 names.transaction_type fields) 0 kind;
+          known = taken_known t.kind taken;
+          account_is = some_value (lookup names.account fields) [] account;
+          sequence_is = some_value (number32 names.sequence fields) 0 sequence;
+          fee_is = fee_there (lookup names.fee fields) fee;
+          key = key;
+        };
+        paid = record {
+          destination_is = destination_there (lookup names.destination fields);
+          amount_is = amount_there (lookup names.amount fields) amount;
+          payment = payment;
+        };
         first = refl;
         last = refl;
-        amount = amount_there (lookup names.amount fields) amount;
         other_amounts = refl;
-        payment = payment;
         hooks = no_hooks t.kind (lookup names.hooks fields) (taken_other t.kind taken);
         given = given;
         given_parameters = are;
@@ -171,30 +175,30 @@ guess_there fields bytes parameters (given, are, same) (kind, (account, (sequenc
 
 has_all_of : (fields : List Item) (bytes : List ℕ) (t : Transaction) → IsTransaction fields bytes false t → HasAll fields
 has_all_of fields bytes t h = (
-  is_there (number16 names.transaction_type fields) t.kind h.kind,
+  is_there (number16 names.transaction_type fields) t.kind h.common.kind_is,
   (
-    is_there (lookup names.account fields) t.account.0 h.account,
+    is_there (lookup names.account fields) t.account.0 h.common.account_is,
     (
-      is_there (number32 names.sequence fields) t.sequence h.sequence,
-      (ap is_native (amount_again (lookup names.fee fields) (Some (Native t.fee)) h.fee), h.key),
+      is_there (number32 names.sequence fields) t.sequence h.common.sequence_is,
+      (ap is_native (amount_again (lookup names.fee fields) (Some (Native t.fee)) h.common.fee_is), h.common.key),
     ),
   ),
 )
 
 right_of : (fields : List Item) (bytes : List ℕ) (t : Transaction) → IsTakenAs fields bytes t → IsRight fields t
 right_of fields bytes t (h, other) = (
-  known_taken t.kind h.known other,
-  (amount_is_some (lookup names.amount fields) t.amount h.amount, (h.payment, (sent_again (lookup names.emit_details fields) t.sequence t.generation t.burden h.emission).0)),
+  known_taken t.kind h.common.known other,
+  (amount_is_some (lookup names.amount fields) t.amount h.paid.amount_is, (h.paid.payment, (sent_again (lookup names.emit_details fields) t.sequence t.generation t.burden h.emission).0)),
 )
 
 guess_again : (fields : List Item) (bytes : List ℕ) (t : Transaction) (h : IsTransaction fields bytes false t) → t.kind ≢ 22 → guess fields bytes (or_empty h.given) ≡ t
 guess_again fields bytes t h other =
-    let kind : unwrap_or (number16 names.transaction_type fields) 0 ≡ t.kind = value_of (number16 names.transaction_type fields) 0 t.kind h.kind in
-    let account : bytes_in names.account fields ≡ t.account.0 = value_of (lookup names.account fields) [] t.account.0 h.account in
-    let destination : option_map account_of (lookup names.destination fields) ≡ t.destination = ap (option_map account_of) h.destination ∙ destination_again t.destination in
-    let sequence : unwrap_or (number32 names.sequence fields) 0 ≡ t.sequence = value_of (number32 names.sequence fields) 0 t.sequence h.sequence in
-    let fee : drops_in (amount_in (lookup names.fee fields)) ≡ t.fee = ap drops_in (amount_again (lookup names.fee fields) (Some (Native t.fee)) h.fee) in
-    let amount : amount_in (lookup names.amount fields) ≡ t.amount = amount_again (lookup names.amount fields) t.amount h.amount in
+    let kind : unwrap_or (number16 names.transaction_type fields) 0 ≡ t.kind = value_of (number16 names.transaction_type fields) 0 t.kind h.common.kind_is in
+    let account : bytes_in names.account fields ≡ t.account.0 = value_of (lookup names.account fields) [] t.account.0 h.common.account_is in
+    let destination : option_map account_of (lookup names.destination fields) ≡ t.destination = ap (option_map account_of) h.paid.destination_is ∙ destination_again t.destination in
+    let sequence : unwrap_or (number32 names.sequence fields) 0 ≡ t.sequence = value_of (number32 names.sequence fields) 0 t.sequence h.common.sequence_is in
+    let fee : drops_in (amount_in (lookup names.fee fields)) ≡ t.fee = ap drops_in (amount_again (lookup names.fee fields) (Some (Native t.fee)) h.common.fee_is) in
+    let amount : amount_in (lookup names.amount fields) ≡ t.amount = amount_again (lookup names.amount fields) t.amount h.paid.amount_is in
     let hooks : [] ≡ t.hooks = hooks_none t.kind (lookup names.hooks fields) t.hooks other h.hooks in
     let sent : IsSent (lookup names.emit_details fields) t.sequence × ((0 ≡ t.generation) × (1 ≡ t.burden)) = sent_again (lookup names.emit_details fields) t.sequence t.generation t.burden h.emission in
     λ i. record {

@@ -13,7 +13,7 @@ use Rattle.xo_fields.specs.Form.{form_at}
 use Rattle.xo_fields.specs.Header.{header}
 use Rattle.xo_fields.specs.Length.{prefix}
 use Rattle.xo_fields.specs.Table.{header_at, length_at}
-use Rattle.xo_object.specs.Item.{Item, spell}
+use Rattle.xo_list.specs.Item.{Item, spell}
 use Rattle.hk_reading.specs.Amounts.{only_if, is_amount, amount_size}
 
 -- a value at the front of bytes, and the bytes after it

@@ -1,7 +1,7 @@
 -- What the bytes of a transaction read as, as a function.
 use Rattle.std.specs.Prelude.{ℕ, nat_lt, List, length, Option, Some, None, if◌then◌else◌}
 use Rattle.xo_object.specs.declared.transaction.Transaction.{Transaction}
-use Rattle.xo_object.specs.Item.{Item}
+use Rattle.xo_list.specs.Item.{Item}
 use Rattle.hk_reading.specs.declared.reading.Reading.{Reading}
 use Rattle.hk_reading.specs.declared.reading.Reading.TheVariants as readings
 use Rattle.hk_reading.specs.Parsing.{fields_of}

@@ -1,10 +1,10 @@
 -- What the bytes of a transaction read as (this project's own limit, and its own list of the types that are taken).
 use Rattle.std.specs.Prelude.{◌≡◌, ◌≢◌, ℕ, ◌<◌, ◌≤◌, ◌⊎◌, false, List, length, Some}
 use Rattle.xo_object.specs.declared.transaction.Transaction.{Transaction}
-use Rattle.xo_object.specs.Item.{Item}
+use Rattle.xo_list.specs.Item.{Item}
 use Rattle.xo_object.specs.Names.{transaction_type}
 use Rattle.xo_object.specs.Transaction.{IsTransaction, number16}
-use Rattle.xo_object.specs.Value.{IsObject, HasFields}
+use Rattle.xo_list.specs.Value.{IsObject, HasFields}
 use Rattle.hk_reading.specs.declared.reading.Reading.{Reading}
 use Rattle.hk_reading.specs.declared.reading.Reading.TheVariants as reading
 

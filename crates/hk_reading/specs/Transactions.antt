@@ -8,7 +8,7 @@ use Rattle.xo_fields.specs.declared.amount.Amount.TheVariants.{Native, Issued}
 use Rattle.xo_fields.specs.declared.field.FieldId.{FieldId}
 use Rattle.xo_object.specs.declared.transaction.Parameter.{Parameter}
 use Rattle.xo_object.specs.declared.transaction.Transaction.{Transaction}
-use Rattle.xo_object.specs.Item.{Item, lookup, is_same}
+use Rattle.xo_list.specs.Item.{Item, lookup, is_same}
 use Rattle.xo_object.specs.Names as names
 use Rattle.xo_object.specs.Transaction.{number16, number32, only}
 use Rattle.hk_reading.specs.Amounts.{only_if, amount_of}

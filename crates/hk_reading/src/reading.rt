@@ -1,7 +1,7 @@
 //! What the bytes of a transaction read as.
 ghost use Rattle.std.specs.Prelude.{◌≡◌, ◌<◌, ◌≤◌, length, Ok, IfOk, IfSome, IfNone, IsTrue, IsFalse};
-ghost use Rattle.xo_object.specs.Span.{items};
-ghost use Rattle.xo_object.specs.Value.{IsObject, HasFields};
+ghost use Rattle.xo_list.specs.Span.{items};
+ghost use Rattle.xo_list.specs.Value.{IsObject, HasFields};
 ghost use Rattle.hk_reading.specs.Readings.{Reads, IsCountable, longest};
 ghost use Rattle.hk_reading.specs.Reading.{reading};
 

@@ -5,8 +5,8 @@ use Rattle.xo_fields.specs.declared.field.FieldId.{FieldId}
 use Rattle.xo_fields.specs.Field.{number}
 use Rattle.xo_fields.specs.Form.{form_at}
 use Rattle.xo_fields.specs.Header.{header}
-use Rattle.xo_object.specs.Item.{Item, body_of, spell, is_same, lookup, without, with_item}
-use Rattle.xo_object.specs.Located.{AllBelow, AllAbove}
+use Rattle.xo_list.specs.Item.{Item, body_of, spell, is_same, lookup, without, with_item}
+use Rattle.xo_list.specs.Located.{AllBelow, AllAbove}
 
 pub spell-append : (a b : List Item) → spell (a ++ b) ≡ spell a ++ spell b
 spell-append [] b = refl

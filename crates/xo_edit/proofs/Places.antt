@@ -9,14 +9,14 @@ use Rattle.xo_fields.specs.Field.{number}
 use Rattle.xo_fields.specs.Form.{form_at}
 use Rattle.xo_fields.specs.Header.{header}
 use Rattle.xo_fields.specs.Length.{prefix}
-use Rattle.xo_object.specs.declared.find.Located.TheVariants.{Found, Absent}
-use Rattle.xo_object.specs.declared.find.Passed.{Passed}
-use Rattle.xo_object.specs.declared.span.Span.{Span}
-use Rattle.xo_object.specs.Item.{Item, body_of, spell, lookup}
-use Rattle.xo_object.specs.Laws.{OneReading, OneSpelling, OneArray}
-use Rattle.xo_object.specs.Located.{AllBelow, Locates, Passes}
-use Rattle.xo_object.specs.Span.{part}
-use Rattle.xo_object.specs.Value.{IsObject, IsArray}
+use Rattle.xo_list.specs.declared.find.Located.TheVariants.{Found, Absent}
+use Rattle.xo_list.specs.declared.find.Passed.{Passed}
+use Rattle.xo_list.specs.declared.span.Span.{Span}
+use Rattle.xo_list.specs.Item.{Item, body_of, spell, lookup}
+use Rattle.xo_list.specs.Laws.{OneReading, OneSpelling, OneArray}
+use Rattle.xo_list.specs.Located.{AllBelow, Locates, Passes}
+use Rattle.xo_list.specs.Span.{part}
+use Rattle.xo_list.specs.Value.{IsObject, IsArray}
 use Rattle.xo_edit.specs.Part.{lead, has_mark, IsFieldAt, IsElementAt, LacksField, LacksElement}
 use Rattle.xo_edit.proofs.ListLemmas.{spell-append, lookup_at, lookup_absent}
 use Rattle.xo_edit.proofs.Reading.{same_fields, same_elements}

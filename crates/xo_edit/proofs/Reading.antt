@@ -2,12 +2,12 @@
 use Rattle.std.proofs.Common.{◌≡◌, ℕ, Bool, true, false, List, [], ◌∷◌, refl, IsTrue}
 use Rattle.xo_fields.specs.declared.form.Form.{Form}
 use Rattle.xo_fields.specs.Field.{number}
-use Rattle.xo_object.specs.declared.fault.ObjectFault.{ObjectFault}
-use Rattle.xo_object.specs.declared.skip.Place.TheVariants.{Fields, Elements}
-use Rattle.xo_object.specs.Fault.{ends, fails, Comes, BodyFails, IsFault, Reads}
-use Rattle.xo_object.specs.Item.{Item}
-use Rattle.xo_object.specs.Laws.{OneReading}
-use Rattle.xo_object.specs.Value.{Goes, IsValue, IsObject, IsArray, HasFields, HasElements}
+use Rattle.xo_list.specs.declared.fault.ObjectFault.{ObjectFault}
+use Rattle.xo_list.specs.declared.skip.Place.TheVariants.{Fields, Elements}
+use Rattle.xo_list.specs.Fault.{ends, fails, Comes, BodyFails, IsFault, Reads}
+use Rattle.xo_list.specs.Item.{Item}
+use Rattle.xo_list.specs.Laws.{OneReading}
+use Rattle.xo_list.specs.Value.{Goes, IsValue, IsObject, IsArray, HasFields, HasElements}
 
 asks_less : (fits : Form → List ℕ → Type 0) (array : Bool) (asked less : ℕ → List ℕ → Type 0) → ((last : ℕ) (rest : List ℕ) → asked last rest → less last rest) →
     (last : ℕ) (items : List Item) (bytes : List ℕ) → Goes fits array last items bytes asked → Goes fits array last items bytes less

@@ -2,14 +2,14 @@
 use Rattle.std.proofs.Common.{◌≡◌, ℕ, List, [], ◌∷◌, ◌++◌, length, take, drop, refl, sym, ap, subst, ◌∙◌, arith, length-append, length-take, length-drop, Option, IsSome}
 use Rattle.xo_fields.specs.declared.field.FieldId.{FieldId}
 use Rattle.xo_fields.specs.Field.{number}
-use Rattle.xo_object.specs.declared.find.Located.TheVariants.{Found, Absent}
-use Rattle.xo_object.specs.declared.span.Span.{Span}
-use Rattle.xo_object.specs.Item.{Item, spell, without, with_item}
-use Rattle.xo_object.specs.Laws.{OneReading, OneSpelling, Edits}
-use Rattle.xo_object.specs.List.{IsList}
-use Rattle.xo_object.specs.Located.{AllBelow, AllAbove, Locates}
-use Rattle.xo_object.specs.Span.{part}
-use Rattle.xo_object.specs.Value.{IsObject, HasFields}
+use Rattle.xo_list.specs.declared.find.Located.TheVariants.{Found, Absent}
+use Rattle.xo_list.specs.declared.span.Span.{Span}
+use Rattle.xo_list.specs.Item.{Item, spell, without, with_item}
+use Rattle.xo_list.specs.Laws.{OneReading, OneSpelling, Edits}
+use Rattle.xo_list.specs.List.{IsList}
+use Rattle.xo_list.specs.Located.{AllBelow, AllAbove, Locates}
+use Rattle.xo_list.specs.Span.{part}
+use Rattle.xo_list.specs.Value.{IsObject, HasFields}
 use Rattle.xo_edit.specs.Edit.{IsOne, IsField, Emplaces, Erases}
 use Rattle.xo_edit.proofs.ListLemmas.{spell-append, without_at, with_new, with_present}
 use Rattle.xo_edit.proofs.Places.{located_value, spell_none}

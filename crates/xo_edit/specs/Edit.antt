@@ -1,8 +1,8 @@
 -- Edits of an object: the list's edit, written again. A list has one spelling.
 use Rattle.std.specs.Prelude.{ℕ, List, [], ◌∷◌, IsSome}
 use Rattle.xo_fields.specs.declared.field.FieldId.{FieldId}
-use Rattle.xo_object.specs.Item.{Item, lookup, without, with_item}
-use Rattle.xo_object.specs.Value.{IsObject}
+use Rattle.xo_list.specs.Item.{Item, lookup, without, with_item}
+use Rattle.xo_list.specs.Value.{IsObject}
 
 -- the bytes are the field with this value, and no more
 abbrev pub IsOne : List ℕ → FieldId → List ℕ → Type 0

@@ -6,10 +6,10 @@ use Rattle.xo_fields.specs.declared.form.Form.TheVariants.{Fixed, Money, Blob, A
 use Rattle.xo_fields.specs.Form.{form_at}
 use Rattle.xo_fields.specs.Header.{header}
 use Rattle.xo_fields.specs.Length.{prefix}
-use Rattle.xo_object.specs.declared.span.Span.{Span}
-use Rattle.xo_object.specs.Item.{Item, spell, lookup}
-use Rattle.xo_object.specs.Span.{part}
-use Rattle.xo_object.specs.Value.{IsObject, IsArray}
+use Rattle.xo_list.specs.declared.span.Span.{Span}
+use Rattle.xo_list.specs.Item.{Item, spell, lookup}
+use Rattle.xo_list.specs.Span.{part}
+use Rattle.xo_list.specs.Value.{IsObject, IsArray}
 
 -- the length before a value, of the kinds that have one
 abbrev pub lead : Option Form → List ℕ → List ℕ

@@ -1,13 +1,13 @@
 ghost use Rattle.std.specs.Prelude.{◌≡◌, ◌<◌, ◌≤◌, ◌⊎◌, ◌↔◌, ◌++◌, length, Err, IfOk, IfErr, IsTrue};
 ghost use Rattle.xo_edit.specs.Edit.{IsField, Emplaces, Erases};
 ghost use Rattle.xo_edit.specs.Part.{LacksField};
-ghost use Rattle.xo_object.specs.Value.{HasFields};
+ghost use Rattle.xo_list.specs.Value.{HasFields};
 
 use crate::fault::EditFault;
 use crate::part::validate;
 use std::alloc::{AllocError, Global};
 use xo_fields::FieldId;
-use xo_object::{Located, edits, locate, one_reading, one_spelling};
+use xo_list::{Located, edits, locate, one_reading, one_spelling};
 
 /// The most bytes of an object that is edited.
 const LONGEST_OBJECT: usize = 16_384;

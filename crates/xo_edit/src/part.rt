@@ -1,10 +1,10 @@
 ghost use Rattle.std.specs.Prelude.{◌≡◌, ◌↔◌, Err, IfOk, IsTrue};
 ghost use Rattle.xo_edit.specs.Part.{IsFieldAt, IsElementAt, LacksField, LacksElement, has_mark};
-ghost use Rattle.xo_object.specs.Value.{HasFields, HasElements};
+ghost use Rattle.xo_list.specs.Value.{HasFields, HasElements};
 
 use crate::fault::EditFault;
 use xo_fields::FieldId;
-use xo_object::{
+use xo_list::{
     Located, Place, Span, check_object, locate, one_array, one_reading, one_spelling,
     skip_elements, skip_fields,
 };

@@ -2,7 +2,7 @@ use super::*;
 use std::alloc::{AllocError, Global};
 use std::test::Fail;
 use xo_fields::FieldId;
-use xo_object::Span;
+use xo_list::Span;
 
 const TYPE: FieldId = FieldId { kind: 1, code: 2 };
 

@@ -2,17 +2,17 @@
 use Rattle.std.proofs.Common.{◌≡◌, ℕ, zero, suc, ◌+◌, ◌<◌, ◌≤◌, List, [], ◌∷◌, ◌++◌, length, take, drop, get_or, refl, sym, ap, subst, ◌∙◌, arith, append_assoc, append-nil, true, Some}
 use Rattle.std.proofs.lemmas.List.{length-map, get_or_default, take-append-drop, drop_more, take_more, map-append, take_all}
 use Rattle.xo_fields.specs.declared.field.FieldId.{FieldId}
-use Rattle.xo_object.specs.declared.skip.Place.TheVariants.{Elements}
-use Rattle.xo_object.specs.declared.span.Span.{Span}
+use Rattle.xo_list.specs.declared.skip.Place.TheVariants.{Elements}
+use Rattle.xo_list.specs.declared.span.Span.{Span}
 use Rattle.xo_object.specs.declared.transaction.Parameter.{Parameter}
-use Rattle.xo_object.specs.Fault.{ends}
-use Rattle.xo_object.specs.Item.{Item}
-use Rattle.xo_object.specs.Laws.{OneReading}
+use Rattle.xo_list.specs.Fault.{ends}
+use Rattle.xo_list.specs.Item.{Item}
+use Rattle.xo_list.specs.Laws.{OneReading}
 use Rattle.xo_object.specs.Names as names
-use Rattle.xo_object.specs.Span.{item_of, items_of}
+use Rattle.xo_list.specs.Span.{item_of, items_of}
 use Rattle.xo_object.specs.Transaction.{Each, IsElement, AreElements, ParameterIs, Differs, AllDiffer, AreParameters}
-use Rattle.xo_object.specs.Value.{IsValue, IsArray}
-use Rattle.xo_object.proofs.Parts.{asks_less}
+use Rattle.xo_list.specs.Value.{IsValue, IsArray}
+use Rattle.xo_list.proofs.Parts.{asks_less}
 use Rattle.xo_object.proofs.Values.{one_list}
 
 pub one_elements : OneReading → (a b : List Item) (bytes : List ℕ) → IsArray a bytes → IsArray b bytes → a ≡ b

@@ -1,5 +1,5 @@
 -- Values of an object's fields fit their kinds.
-use Rattle.std.proofs.Common.{◌≡◌, ℕ, Bool, true, false, List, [], ◌∷◌, ◌++◌, refl, sym, ap, subst, ◌∙◌, arith, append-nil, drop, Option, Some, None, if◌then◌else◌}
+use Rattle.std.proofs.Common.{◌≡◌, ℕ, Bool, true, false, List, [], ◌∷◌, ◌++◌, refl, sym, ap, subst, ◌∙◌, arith, append-nil, drop, Option, Some, None, Result, Err, if◌then◌else◌}
 use Rattle.std.proofs.lemmas.Bool.Decides.{nat_tests}
 use Rattle.xo_fields.specs.declared.field.FieldId.{FieldId}
 use Rattle.xo_fields.specs.declared.form.Form.{Form}
@@ -14,15 +14,16 @@ use Rattle.std.specs.Option.{option_map}
 use Rattle.xo_object.specs.Transaction.{IsAmountOf, PaymentIs}
 use Rattle.std.proofs.lemmas.List.{take-append-drop}
 use Rattle.xo_fields.specs.Form.{form_at}
-use Rattle.xo_object.specs.declared.fault.ObjectFault.{ObjectFault}
-use Rattle.xo_object.specs.declared.skip.Place.TheVariants.{Fields}
-use Rattle.xo_object.specs.Item.{Item, lookup, is_same}
-use Rattle.xo_object.specs.Fault.{ends, fails, IsFault}
-use Rattle.xo_object.specs.Laws.{OneReading}
-use Rattle.xo_object.specs.List.{ListFits}
-use Rattle.xo_object.specs.Value.{IsValue, IsObject, HasFields}
-use Rattle.xo_object.proofs.ListLemmas.{listed}
-use Rattle.xo_object.proofs.Parts.{asks_less}
+use Rattle.xo_list.specs.declared.fault.ObjectFault.{ObjectFault}
+use Rattle.xo_object.specs.declared.reading.TransactionFault.{TransactionFault}
+use Rattle.xo_list.specs.declared.skip.Place.TheVariants.{Fields}
+use Rattle.xo_list.specs.Item.{Item, lookup, is_same}
+use Rattle.xo_list.specs.Fault.{ends, fails, IsFault}
+use Rattle.xo_list.specs.Laws.{OneReading}
+use Rattle.xo_list.specs.List.{ListFits}
+use Rattle.xo_list.specs.Value.{IsValue, IsObject, HasFields}
+use Rattle.xo_list.proofs.ListLemmas.{listed}
+use Rattle.xo_list.proofs.Parts.{asks_less}
 
 abbrev pub account_id : List ℕ → AccountId
 account_id bytes = record { 0 = bytes }
@@ -99,3 +100,7 @@ number_same found m n h k = let e : Some m ≡ Some n = sym h ∙ k in cc
 pub paid_same : (kind other : ℕ) (a b : Option AccountId) (x y : Option Amount) → kind ≡ other → a ≡ b → x ≡ y → PaymentIs other b y → PaymentIs kind a x
 paid_same kind other a b x y k e f h =
     subst (λ n. PaymentIs n a x) (sym k) (subst (λ c. PaymentIs other c x) (sym e) (subst (λ z. PaymentIs other b z) (sym f) h))
+
+-- a refusal that is handed on
+pub same_refusal : (A B : Type 0) (f g : TransactionFault) → ◌≡◌ {A = Result A TransactionFault} (Err f) (Err g) → ◌≡◌ {A = Result B TransactionFault} (Err f) (Err g)
+same_refusal A B f g e = let same : f ≡ g = cc in ap Err same

@@ -9,14 +9,15 @@ use Rattle.xo_fields.specs.declared.amount.Amount.{Amount}
 use Rattle.xo_fields.specs.declared.amount.Amount.TheVariants.{Native, Issued}
 use Rattle.xo_fields.specs.declared.field.FieldId.{FieldId}
 use Rattle.xo_fields.specs.Amount.{amount_bytes, IsValid}
+use Rattle.xo_object.specs.declared.terms.Terms.{Terms}
 use Rattle.xo_object.specs.declared.transaction.Grant.{Grant}
 use Rattle.xo_object.specs.declared.transaction.HookItem.{HookItem}
 use Rattle.xo_object.specs.declared.transaction.HookItem.TheVariants.{Noop, DeleteNamespace, Delete, Create, Install, Update}
 use Rattle.xo_object.specs.declared.transaction.Parameter.{Parameter}
 use Rattle.xo_object.specs.declared.transaction.Transaction.{Transaction}
-use Rattle.xo_object.specs.Item.{Item, lookup, is_same}
+use Rattle.xo_list.specs.Item.{Item, lookup, is_same}
 use Rattle.xo_object.specs.Names as names
-use Rattle.xo_object.specs.Value.{IsObject, IsArray}
+use Rattle.xo_list.specs.Value.{IsObject, IsArray}
 
 -- numbers, hashes and accounts that a list of fields has
 abbrev pub number16 : FieldId → List Item → Option ℕ
@@ -157,38 +158,34 @@ pub record IsDeleteNamespace (fields : List Item) (h : HookItem) : Type 0 where
   pub named : HasHash names.hook_namespace fields (Some namespace)
   pub is : h ≡ DeleteNamespace namespace
 
-pub record IsCreate (fields : List Item) (h : HookItem) : Type 0 where
-  pub code : List ℕ
-  pub on : Hash256
-  pub namespace : Hash256
+-- what installs a hook says of it besides its code
+pub record TermsAre (fields : List Item) (t : Terms) : Type 0 where
   pub parameters : Option (List Parameter)
   pub grants : Option (List Grant)
-  pub replace : Bool
-  pub coded : lookup names.create_code fields ≡ Some code
-  pub version : number16 names.hook_api_version fields ≡ Some 0
-  pub fires : HasHash names.hook_on fields (Some on)
-  pub named : HasHash names.hook_namespace fields (Some namespace)
+  pub fires : HasHash names.hook_on fields (Some t.on)
+  pub named : HasHash names.hook_namespace fields (Some t.namespace)
   pub given_parameters : Given AreParameters (lookup names.hook_parameters fields) parameters
   pub given_grants : Given AreGrants (lookup names.hook_grants fields) grants
-  pub flags : Replaces (number32 names.flags fields) replace
+  pub all_parameters : t.parameters ≡ or_empty parameters
+  pub all_grants : t.grants ≡ or_empty grants
+  pub flags : Replaces (number32 names.flags fields) t.replace
+
+pub record IsCreate (fields : List Item) (h : HookItem) : Type 0 where
+  pub code : List ℕ
+  pub terms : Terms
+  pub coded : lookup names.create_code fields ≡ Some code
+  pub version : number16 names.hook_api_version fields ≡ Some 0
+  pub said : TermsAre fields terms
   pub others : IsTrue (only (names.flags ∷ names.hook_on ∷ names.hook_namespace ∷ names.hook_api_version ∷ names.create_code ∷ names.hook_parameters ∷ names.hook_grants ∷ []) fields)
-  pub is : h ≡ Create code 0 on namespace (or_empty parameters) (or_empty grants) replace
+  pub is : h ≡ Create code 0 terms.on terms.namespace terms.parameters terms.grants terms.replace
 
 pub record IsInstall (fields : List Item) (h : HookItem) : Type 0 where
   pub hash : Hash256
-  pub on : Hash256
-  pub namespace : Hash256
-  pub parameters : Option (List Parameter)
-  pub grants : Option (List Grant)
-  pub replace : Bool
+  pub terms : Terms
   pub hashed : HasHash names.hook_hash fields (Some hash)
-  pub fires : HasHash names.hook_on fields (Some on)
-  pub named : HasHash names.hook_namespace fields (Some namespace)
-  pub given_parameters : Given AreParameters (lookup names.hook_parameters fields) parameters
-  pub given_grants : Given AreGrants (lookup names.hook_grants fields) grants
-  pub flags : Replaces (number32 names.flags fields) replace
+  pub said : TermsAre fields terms
   pub others : IsTrue (only (names.flags ∷ names.hook_on ∷ names.hook_hash ∷ names.hook_namespace ∷ names.hook_parameters ∷ names.hook_grants ∷ []) fields)
-  pub is : h ≡ Install hash on namespace (or_empty parameters) (or_empty grants) replace
+  pub is : h ≡ Install hash terms.on terms.namespace terms.parameters terms.grants terms.replace
 
 pub record IsUpdate (fields : List Item) (h : HookItem) : Type 0 where
   pub on : Option Hash256
@@ -264,20 +261,28 @@ HooksFor true bytes items = GivenHooks bytes items
 abbrev pub HooksAre : ℕ → Option (List ℕ) → List HookItem → Type 0
 HooksAre kind bytes items = HooksFor (kind == 22) bytes items
 
+-- what each transaction has: a known type, an account, a number, a native fee and a key
+pub record CommonAre (fields : List Item) (kind : ℕ) (account : AccountId) (sequence fee : ℕ) : Type 0 where
+  pub kind_is : number16 names.transaction_type fields ≡ Some kind
+  pub known : IsTrue (kind == 0 || kind == 3 || kind == 22 || kind == 99)
+  pub account_is : HasAccount names.account fields (Some account)
+  pub sequence_is : number32 names.sequence fields ≡ Some sequence
+  pub fee_is : IsAmountOf (lookup names.fee fields) (Some (Native fee))
+  pub key : IsSome (lookup names.signing_pub_key fields)
+
+-- whom one names and which amount, as a payment must and another may
+pub record PaidAre (fields : List Item) (kind : ℕ) (destination : Option AccountId) (amount : Option Amount) : Type 0 where
+  pub destination_is : HasAccount names.destination fields destination
+  pub amount_is : IsAmountOf (lookup names.amount fields) amount
+  pub payment : PaymentIs kind destination amount
+
 -- a transaction
 pub record IsTransaction (fields : List Item) (bytes : List ℕ) (emitted : Bool) (t : Transaction) : Type 0 where
-  pub kind : number16 names.transaction_type fields ≡ Some t.kind
-  pub known : IsTrue (t.kind == 0 || t.kind == 3 || t.kind == 22 || t.kind == 99)
-  pub account : HasAccount names.account fields (Some t.account)
-  pub sequence : number32 names.sequence fields ≡ Some t.sequence
-  pub fee : IsAmountOf (lookup names.fee fields) (Some (Native t.fee))
-  pub key : IsSome (lookup names.signing_pub_key fields)
-  pub destination : HasAccount names.destination fields t.destination
+  pub common : CommonAre fields t.kind t.account t.sequence t.fee
+  pub paid : PaidAre fields t.kind t.destination t.amount
   pub first : number32 names.first_ledger_sequence fields ≡ t.first
   pub last : number32 names.last_ledger_sequence fields ≡ t.last
-  pub amount : IsAmountOf (lookup names.amount fields) t.amount
   pub other_amounts : t.other_amounts ≡ (is_some (lookup names.send_max fields) || is_some (lookup names.deliver_min fields))
-  pub payment : PaymentIs t.kind t.destination t.amount
   pub hooks : HooksAre t.kind (lookup names.hooks fields) t.hooks
   pub given : Option (List Parameter)
   pub given_parameters : Given AreParameters (lookup names.hook_parameters fields) given

@@ -1,42 +1,30 @@
 //! The items by which a transaction installs, changes and removes hooks.
 ghost use Rattle.std.specs.Prelude.{◌≡◌, ◌≤◌, ◌<◌, ◌||◌, ◌==◌, [], List, Bool, Err, IfOk, IfSome, IfNone, IsTrue, All, Some, None};
+ghost use Rattle.xo_object.specs.declared.terms.Terms.{Terms};
 ghost use Rattle.xo_object.specs.declared.transaction.HookItem.{HookItem};
-ghost use Rattle.xo_object.specs.Item.{lookup};
+ghost use Rattle.xo_list.specs.Item.{lookup};
 ghost use Rattle.xo_object.specs.Names.{create_code, hook, hook_hash, flags};
-ghost use Rattle.xo_object.specs.Span.{items, items_of, InRange};
-ghost use Rattle.xo_object.specs.Transaction.{IsElement, AreHooks, HookIs, IsDelete, IsDeleteNamespace, IsCreate, IsInstall, IsUpdate, Replaces, number32, or_empty};
-ghost use Rattle.xo_object.specs.Value.{IsArray};
+ghost use Rattle.xo_list.specs.Span.{items, items_of, InRange};
+ghost use Rattle.xo_object.specs.Transaction.{IsElement, AreHooks, HookIs, IsDelete, IsDeleteNamespace, IsCreate, IsInstall, IsUpdate, TermsAre, Replaces, number32, or_empty};
+ghost use Rattle.xo_list.specs.Value.{IsArray};
 
-use crate::laws::one_reading;
 use crate::lists::{copied, given_grants, given_parameters};
-use crate::object::Object;
+use crate::names::{
+    CREATE_CODE, FLAGS, HOOK_API_VERSION, HOOK_GRANTS, HOOK_HASH, HOOK_NAMESPACE, HOOK_ON,
+    HOOK_PARAMETERS,
+};
 use crate::reading::{
     TransactionFault, has_only, hash_at, nested_array, nested_object, number16_at, number32_at,
 };
-use crate::span::Span;
+use crate::terms::Terms;
 use crate::transaction::{Grant, HookItem, Parameter};
 use hk_base::Items;
 use std::alloc::Global;
 use xo_fields::FieldId;
+use xo_list::{Object, Span, one_reading};
 
 /// The most items of a transaction.
 const MOST: usize = 10;
-
-const FLAGS: FieldId = FieldId { kind: 2, code: 2 };
-
-const HOOK_API_VERSION: FieldId = FieldId { kind: 1, code: 20 };
-
-const HOOK_ON: FieldId = FieldId { kind: 5, code: 20 };
-
-const HOOK_HASH: FieldId = FieldId { kind: 5, code: 31 };
-
-const HOOK_NAMESPACE: FieldId = FieldId { kind: 5, code: 32 };
-
-const CREATE_CODE: FieldId = FieldId { kind: 7, code: 11 };
-
-const HOOK_PARAMETERS: FieldId = FieldId { kind: 15, code: 19 };
-
-const HOOK_GRANTS: FieldId = FieldId { kind: 15, code: 20 };
 
 /// The items of an array's bytes.
 pub fn read_hooks(alloc: Global, bytes: &[u8]) -> Result<Items<HookItem>, TransactionFault>
@@ -231,37 +219,19 @@ fn create_of(alloc: Global, object: &Object, code: &[u8]) -> Result<HookItem, Tr
     ) {
         return Err(TransactionFault::Malformed);
     }
-    let version = match number16_at(object, HOOK_API_VERSION) {
+    match number16_at(object, HOOK_API_VERSION) {
         None => return Err(TransactionFault::Malformed),
-        Some(version) => version,
-    };
-    if version != 0 {
-        return Err(TransactionFault::Malformed);
+        Some(version) => {
+            if version != 0 {
+                return Err(TransactionFault::Malformed);
+            }
+        }
     }
-    let on = match hash_at(object, HOOK_ON) {
-        None => return Err(TransactionFault::Malformed),
-        Some(on) => on,
-    };
-    let namespace = match hash_at(object, HOOK_NAMESPACE) {
-        None => return Err(TransactionFault::Malformed),
-        Some(namespace) => namespace,
-    };
-    let replace = match replaces(object) {
-        None => return Err(TransactionFault::Malformed),
-        Some(replace) => replace,
-    };
-    let parameters = given_parameters(alloc, object)?;
-    let grants = given_grants(alloc, object)?;
     let code = copied(alloc, code)?;
-    Ok(HookItem::Create {
-        code,
-        version: 0,
-        on,
-        namespace,
-        parameters: parameters_or_none(alloc, parameters),
-        grants: grants_or_none(alloc, grants),
-        replace,
-    })
+    match terms_of(alloc, object) {
+        Err(fault) => Err(fault),
+        Ok(terms) => Ok(terms.create(code, 0)),
+    }
 }
 
 fn install_of(alloc: Global, object: &Object) -> Result<HookItem, TransactionFault>
@@ -285,6 +255,17 @@ fn install_of(alloc: Global, object: &Object) -> Result<HookItem, TransactionFau
         None => return Err(TransactionFault::Malformed),
         Some(hash) => hash,
     };
+    match terms_of(alloc, object) {
+        Err(fault) => Err(fault),
+        Ok(terms) => Ok(terms.install(hash)),
+    }
+}
+
+/// What the fields of an item that installs a hook say of it besides its code.
+fn terms_of(alloc: Global, object: &Object) -> Result<Terms, TransactionFault>
+    ensures ok { IfOk result (λ terms. TermsAre (items object.now) terms) }
+    ensures malformed { result ≡ Err TransactionFault.Malformed → (terms : Terms) → TermsAre (items object.now) terms → ⊥ }
+{
     let on = match hash_at(object, HOOK_ON) {
         None => return Err(TransactionFault::Malformed),
         Some(on) => on,
@@ -299,8 +280,7 @@ fn install_of(alloc: Global, object: &Object) -> Result<HookItem, TransactionFau
     };
     let parameters = given_parameters(alloc, object)?;
     let grants = given_grants(alloc, object)?;
-    Ok(HookItem::Install {
-        hash,
+    Ok(Terms {
         on,
         namespace,
         parameters: parameters_or_none(alloc, parameters),

@@ -2,22 +2,23 @@
 ghost use Rattle.std.specs.Prelude.{◌≡◌, ◌≤◌, ◌↔◌, [], List, Err, IfOk, IsTrue, All, Option, Some, unwrap_or};
 ghost use Rattle.xo_object.specs.declared.transaction.Grant.{Grant};
 ghost use Rattle.xo_object.specs.declared.transaction.Parameter.{Parameter};
-ghost use Rattle.xo_object.specs.Item.{lookup};
+ghost use Rattle.xo_list.specs.Item.{lookup};
 ghost use Rattle.xo_object.specs.Names.{hook_parameter, hook_grant, hook_parameters, hook_grants};
-ghost use Rattle.xo_object.specs.Span.{items, items_of, InRange};
-ghost use Rattle.xo_object.specs.Value.{IsArray};
+ghost use Rattle.xo_list.specs.Span.{items, items_of, InRange};
+ghost use Rattle.xo_list.specs.Value.{IsArray};
 ghost use Rattle.xo_object.specs.Transaction.{IsElement, ParameterIs, GrantIs, AreParameters, AreGrants, Given, Differs};
 
-use crate::laws::one_reading;
-use crate::object::Object;
+use crate::names::{
+    AUTHORIZE, HOOK_GRANTS, HOOK_HASH, HOOK_PARAMETERS, PARAMETER_NAME, PARAMETER_VALUE,
+};
 use crate::reading::{
     TransactionFault, account_at, has_only, hash_at, nested_array, nested_object,
 };
-use crate::span::Span;
 use crate::transaction::{Grant, Parameter};
 use hk_base::Items;
 use std::alloc::Global;
 use xo_fields::FieldId;
+use xo_list::{Object, Span, one_reading};
 
 /// The most parameters and grants of an item.
 const MOST: usize = 16;
@@ -25,18 +26,6 @@ const MOST: usize = 16;
 const LONGEST_NAME: usize = 32;
 /// The longest value of a parameter.
 const LONGEST_VALUE: usize = 256;
-
-const PARAMETER_NAME: FieldId = FieldId { kind: 7, code: 24 };
-
-const PARAMETER_VALUE: FieldId = FieldId { kind: 7, code: 25 };
-
-const HOOK_HASH: FieldId = FieldId { kind: 5, code: 31 };
-
-const AUTHORIZE: FieldId = FieldId { kind: 8, code: 5 };
-
-const HOOK_PARAMETERS: FieldId = FieldId { kind: 15, code: 19 };
-
-const HOOK_GRANTS: FieldId = FieldId { kind: 15, code: 20 };
 
 /// The parameters that an object has, if it has a list of them.
 pub fn given_parameters(

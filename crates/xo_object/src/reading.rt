@@ -3,18 +3,15 @@ ghost use Rattle.std.specs.Prelude.{◌≡◌, ◌≤◌, ◌<◌, ℕ, List, le
 ghost use Rattle.std.specs.Option.{option_map};
 ghost use Rattle.xo_fields.specs.declared.field.FieldId.{FieldId};
 ghost use Rattle.xo_fields.specs.Form.{form_at};
-ghost use Rattle.xo_object.specs.Item.{lookup};
-ghost use Rattle.xo_object.specs.Span.{items, items_of, InRange};
-ghost use Rattle.xo_object.specs.Value.{IsObject, IsArray, IsValue, HasFields, HasElements};
+ghost use Rattle.xo_list.specs.Item.{lookup};
+ghost use Rattle.xo_list.specs.Span.{items, items_of, InRange};
+ghost use Rattle.xo_list.specs.Value.{IsObject, IsArray, IsValue, HasFields, HasElements};
 ghost use Rattle.xo_object.specs.Transaction.{number16, number32, number64, HasHash, HasAccount, IsAmountOf, only, is_among};
 
-use crate::fault::ObjectFault;
-use crate::laws::one_reading;
-use crate::object::{Object, read_elements, read_object};
-use crate::span::Span;
 use hk_base::{AccountId, Hash256};
 use std::alloc::Global;
 use xo_fields::{Amount, AmountRead, FieldId, Form, one_amount, read_amount};
+use xo_list::{Object, ObjectFault, Span, one_reading, read_elements, read_object};
 
 /// Why fields are no transaction.
 #[derive(Clone, Copy, Debug, PartialEq, Eq)]

@@ -1,17 +1,22 @@
 //! Transactions of objects.
-ghost use Rattle.std.specs.Prelude.{◌≡◌, ◌<◌, ◌||◌, ◌==◌, ◌↔◌, ℕ, List, Err, IfOk, IfSome, IfNone, IsTrue, is_some, Some, None};
+ghost use Rattle.std.specs.Prelude.{◌≡◌, ◌<◌, ◌||◌, ◌==◌, ◌↔◌, ℕ, List, Option, Err, IfOk, IfSome, IfNone, IsTrue, is_some, Some, None};
+ghost use Rattle.hk_base.specs.declared.ids.AccountId.{AccountId};
+ghost use Rattle.xo_fields.specs.declared.amount.Amount.{Amount};
 ghost use Rattle.xo_fields.specs.declared.amount.Amount.TheVariants.{Native};
 ghost use Rattle.xo_object.specs.declared.transaction.HookItem.{HookItem};
 ghost use Rattle.xo_object.specs.declared.transaction.Transaction.{Transaction};
-ghost use Rattle.xo_object.specs.Item.{lookup};
+ghost use Rattle.xo_list.specs.Item.{lookup};
 ghost use Rattle.xo_object.specs.Names.{transaction_type, fee, hooks, emit_details};
-ghost use Rattle.xo_object.specs.Span.{items};
-ghost use Rattle.xo_object.specs.Transaction.{IsTransaction, IsAmountOf, IsPositive, PaymentIs, HooksAre, EmissionIs, DetailsAre, DetailsIn, number16};
+ghost use Rattle.xo_list.specs.Span.{items};
+ghost use Rattle.xo_object.specs.Transaction.{IsTransaction, CommonAre, PaidAre, IsAmountOf, IsPositive, PaymentIs, HooksAre, EmissionIs, DetailsAre, DetailsIn, number16};
 
 use crate::hooks::{parameters_or_none, read_hooks};
-use crate::laws::one_reading;
 use crate::lists::{copied, given_parameters};
-use crate::object::Object;
+use crate::names::{
+    ACCOUNT, AMOUNT, DELIVER_MIN, DESTINATION, EMIT_BURDEN, EMIT_CALLBACK, EMIT_DETAILS,
+    EMIT_GENERATION, EMIT_HOOK_HASH, EMIT_NONCE, EMIT_PARENT, FEE, FIRST_LEDGER_SEQUENCE, HOOKS,
+    LAST_LEDGER_SEQUENCE, SEND_MAX, SEQUENCE, SIGNING_PUB_KEY, TRANSACTION_TYPE,
+};
 use crate::reading::{
     TransactionFault, account_at, amount_at, has_only, nested_object, number16_at, number32_at,
     number64_at,
@@ -20,44 +25,7 @@ use crate::transaction::{HookItem, Transaction};
 use hk_base::{AccountId, Items, tx_id};
 use std::alloc::Global;
 use xo_fields::{Amount, FieldId, one_amount};
-
-const TRANSACTION_TYPE: FieldId = FieldId { kind: 1, code: 2 };
-
-const SEQUENCE: FieldId = FieldId { kind: 2, code: 4 };
-
-const FIRST_LEDGER_SEQUENCE: FieldId = FieldId { kind: 2, code: 26 };
-
-const LAST_LEDGER_SEQUENCE: FieldId = FieldId { kind: 2, code: 27 };
-
-const EMIT_GENERATION: FieldId = FieldId { kind: 2, code: 46 };
-
-const EMIT_BURDEN: FieldId = FieldId { kind: 3, code: 13 };
-
-const EMIT_PARENT: FieldId = FieldId { kind: 5, code: 11 };
-
-const EMIT_NONCE: FieldId = FieldId { kind: 5, code: 12 };
-
-const EMIT_HOOK_HASH: FieldId = FieldId { kind: 5, code: 13 };
-
-const AMOUNT: FieldId = FieldId { kind: 6, code: 1 };
-
-const FEE: FieldId = FieldId { kind: 6, code: 8 };
-
-const SEND_MAX: FieldId = FieldId { kind: 6, code: 9 };
-
-const DELIVER_MIN: FieldId = FieldId { kind: 6, code: 10 };
-
-const SIGNING_PUB_KEY: FieldId = FieldId { kind: 7, code: 3 };
-
-const ACCOUNT: FieldId = FieldId { kind: 8, code: 1 };
-
-const DESTINATION: FieldId = FieldId { kind: 8, code: 3 };
-
-const EMIT_CALLBACK: FieldId = FieldId { kind: 8, code: 10 };
-
-const EMIT_DETAILS: FieldId = FieldId { kind: 14, code: 13 };
-
-const HOOKS: FieldId = FieldId { kind: 15, code: 11 };
+use xo_list::{Object, one_reading};
 
 /// Payments.
 const PAYMENT: u16 = 0;
@@ -76,7 +44,44 @@ pub fn read_transaction(
     ensures ok { IfOk result (λ transaction. IsTransaction (items object.now) object.now.bytes emitted transaction) }
     ensures malformed { result ≡ Err TransactionFault.Malformed → (transaction : Transaction) → IsTransaction (items object.now) object.now.bytes emitted transaction → ⊥ }
 {
-    one_amount();
+    let common = common_of(object)?;
+    let paid = paid_of(object, common.kind)?;
+    let emission = emission_of(alloc, object, emitted, common.sequence)?;
+    let hooks = hooks_for(alloc, object, common.kind)?;
+    let parameters = given_parameters(alloc, object)?;
+    let blob = copied(alloc, object.bytes())?;
+    Ok(Transaction {
+        kind: common.kind,
+        account: common.account,
+        destination: paid.destination,
+        sequence: common.sequence,
+        fee: common.fee,
+        first: number32_at(object, FIRST_LEDGER_SEQUENCE),
+        last: number32_at(object, LAST_LEDGER_SEQUENCE),
+        amount: paid.amount,
+        parameters: parameters_or_none(alloc, parameters),
+        hooks,
+        other_amounts: has_either(object, SEND_MAX, DELIVER_MIN),
+        generation: emission.generation,
+        burden: emission.burden,
+        blob,
+        id: tx_id(object.bytes()),
+    })
+}
+
+/// What each transaction has.
+#[derive(Drop)]
+struct Common {
+    kind: u16,
+    account: AccountId,
+    sequence: u32,
+    fee: u64,
+}
+
+fn common_of(object: &Object) -> Result<Common, TransactionFault>
+    ensures ok { IfOk result (λ common. CommonAre (items object.now) common.kind common.account common.sequence common.fee) }
+    ensures malformed { result ≡ Err TransactionFault.Malformed → (kind : ℕ) → (account : AccountId) → (sequence : ℕ) → (fee : ℕ) → CommonAre (items object.now) kind account sequence fee → ⊥ }
+{
     let kind = match kind_of(object) {
         None => return Err(TransactionFault::Malformed),
         Some(kind) => kind,
@@ -96,31 +101,34 @@ pub fn read_transaction(
     if let None = object.field(SIGNING_PUB_KEY) {
         return Err(TransactionFault::Malformed);
     }
+    Ok(Common {
+        kind,
+        account,
+        sequence,
+        fee,
+    })
+}
+
+/// Whom a transaction names, and which amount.
+#[derive(Drop)]
+struct Paid {
+    destination: Option<AccountId>,
+    amount: Option<Amount>,
+}
+
+fn paid_of(object: &Object, kind: u16) -> Result<Paid, TransactionFault>
+    ensures ok { IfOk result (λ paid. PaidAre (items object.now) kind paid.destination paid.amount) }
+    ensures malformed { result ≡ Err TransactionFault.Malformed → (destination : Option AccountId) → (amount : Option Amount) → PaidAre (items object.now) kind destination amount → ⊥ }
+{
+    one_amount();
     let destination = account_at(object, DESTINATION);
     let amount = amount_at(object, AMOUNT);
     if !is_payment(kind, &destination, &amount) {
         return Err(TransactionFault::Malformed);
     }
-    let emission = emission_of(alloc, object, emitted, sequence)?;
-    let hooks = hooks_for(alloc, object, kind)?;
-    let parameters = given_parameters(alloc, object)?;
-    let blob = copied(alloc, object.bytes())?;
-    Ok(Transaction {
-        kind,
-        account,
+    Ok(Paid {
         destination,
-        sequence,
-        fee,
-        first: number32_at(object, FIRST_LEDGER_SEQUENCE),
-        last: number32_at(object, LAST_LEDGER_SEQUENCE),
         amount,
-        parameters: parameters_or_none(alloc, parameters),
-        hooks,
-        other_amounts: has_either(object, SEND_MAX, DELIVER_MIN),
-        generation: emission.generation,
-        burden: emission.burden,
-        blob,
-        id: tx_id(object.bytes()),
     })
 }
 

@@ -1,6 +1,8 @@
 //! Transactions, and the items by which one installs hooks.
 ghost use Rattle.std.specs.Prelude.{◌≡◌, IfOk};
+ghost use Rattle.xo_object.specs.declared.transaction.HookItem.TheVariants.{Update};
 
+use crate::terms::copy_terms;
 use hk_base::{AccountId, Hash256, Items, NoMemory};
 use std::alloc::Global;
 use xo_fields::Amount;
@@ -94,18 +96,8 @@ impl HookItem {
                 grants,
                 replace,
             } => {
-                let code = code.copy()?;
-                let parameters = copy_parameters(alloc, parameters.as_slice())?;
-                let grants = grants.copy()?;
-                Ok(HookItem::Create {
-                    code,
-                    version: *version,
-                    on: *on,
-                    namespace: *namespace,
-                    parameters,
-                    grants,
-                    replace: *replace,
-                })
+                let terms = copy_terms(alloc, *on, *namespace, parameters, grants, *replace)?;
+                Ok(terms.create(code.copy()?, *version))
             }
             HookItem::Install {
                 hash,
@@ -115,32 +107,15 @@ impl HookItem {
                 grants,
                 replace,
             } => {
-                let parameters = copy_parameters(alloc, parameters.as_slice())?;
-                let grants = grants.copy()?;
-                Ok(HookItem::Install {
-                    hash: *hash,
-                    on: *on,
-                    namespace: *namespace,
-                    parameters,
-                    grants,
-                    replace: *replace,
-                })
+                let terms = copy_terms(alloc, *on, *namespace, parameters, grants, *replace)?;
+                Ok(terms.install(*hash))
             }
             HookItem::Update {
                 on,
                 namespace,
                 parameters,
                 grants,
-            } => {
-                let parameters = copy_given_parameters(alloc, parameters)?;
-                let grants = copy_given_grants(grants)?;
-                Ok(HookItem::Update {
-                    on: *on,
-                    namespace: *namespace,
-                    parameters,
-                    grants,
-                })
-            }
+            } => copy_update(alloc, *on, *namespace, parameters, grants),
         }
     }
 }
@@ -227,6 +202,26 @@ fn copy_hooks(alloc: Global, hooks: &[HookItem]) -> Result<Items<HookItem>, NoMe
         copied.push(own)?;
     }
     Ok(copied)
+}
+
+/// The item that replaces the same.
+fn copy_update(
+    alloc: Global,
+    on: Option<Hash256>,
+    namespace: Option<Hash256>,
+    parameters: &Option<Items<Parameter>>,
+    grants: &Option<Items<Grant>>,
+) -> Result<HookItem, NoMemory>
+    ensures same { IfOk result (λ item. item ≡ Update on namespace parameters.now grants.now) }
+{
+    let parameters = copy_given_parameters(alloc, parameters)?;
+    let grants = copy_given_grants(grants)?;
+    Ok(HookItem::Update {
+        on,
+        namespace,
+        parameters,
+        grants,
+    })
 }
 
 fn copy_given_parameters(

@@ -1,6 +1,6 @@
 use Rattle.std.proofs.Common.{◌≡◌, ap, Err}
-use Rattle.xo_object.specs.Span.{items}
-use Rattle.xo_object.specs.Value.{IsObject}
+use Rattle.xo_list.specs.Span.{items}
+use Rattle.xo_list.specs.Value.{IsObject}
 use Rattle.hk_reading.proofs.OneReading.{at_some, refused}
 use Rattle.hk_reading.proofs.reading.read_by_relation.Goals as goal
 

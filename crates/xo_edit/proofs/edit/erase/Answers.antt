@@ -1,5 +1,5 @@
 use Rattle.std.proofs.Common.{◌++◌, [], take, refl, sym, ap, subst, ◌∙◌}
-use Rattle.xo_object.specs.Value.{HasFields}
+use Rattle.xo_list.specs.Value.{HasFields}
 use Rattle.xo_edit.specs.Edit.{Erases}
 use Rattle.xo_edit.proofs.Places.{all_left, field_lacks, field_there}
 use Rattle.xo_edit.proofs.Splices.{erased}

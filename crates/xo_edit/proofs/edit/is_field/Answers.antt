@@ -1,6 +1,6 @@
 use Rattle.std.proofs.Common.{◌≡◌, ℕ, length, refl, IsTrue, nat_eq, arith}
 use Rattle.std.proofs.lemmas.Bool.Decides.{nat_tests}
-use Rattle.xo_object.specs.Value.{HasFields}
+use Rattle.xo_list.specs.Value.{HasFields}
 use Rattle.xo_edit.proofs.Reading.{never_true}
 use Rattle.xo_edit.proofs.Splices.{one_whole, whole_one, absent_one, has_fields}
 use Rattle.xo_edit.proofs.edit.is_field.Goals as goal

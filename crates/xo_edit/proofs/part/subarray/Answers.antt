@@ -1,6 +1,6 @@
 use Rattle.std.proofs.Common.{refl, subst, drop}
-use Rattle.xo_object.specs.Located.{Passes}
-use Rattle.xo_object.specs.Value.{IsArray, HasElements}
+use Rattle.xo_list.specs.Located.{Passes}
+use Rattle.xo_list.specs.Value.{IsArray, HasElements}
 use Rattle.xo_edit.proofs.Places.{all_left, element_lacks, element_place}
 use Rattle.xo_edit.proofs.part.subarray.Goals as goal
 

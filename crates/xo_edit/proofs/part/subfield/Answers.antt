@@ -1,5 +1,5 @@
 use Rattle.std.proofs.Common.{refl, sym}
-use Rattle.xo_object.specs.Value.{HasFields}
+use Rattle.xo_list.specs.Value.{HasFields}
 use Rattle.xo_edit.proofs.Places.{marked_some, marked_place, plain_place, field_lacks, field_there}
 use Rattle.xo_edit.proofs.part.subfield.Goals as goal
 use Rattle.xo_edit.proofs.part.subfield.Goals.{Then-ends_with_mark, Else-ends_with_mark}

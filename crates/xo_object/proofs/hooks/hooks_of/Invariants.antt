@@ -1,6 +1,6 @@
 use Rattle.std.proofs.Common.{take}
 use Rattle.xo_object.specs.Names.{hook}
-use Rattle.xo_object.specs.Span.{items_of}
+use Rattle.xo_list.specs.Span.{items_of}
 use Rattle.xo_object.specs.Transaction.{Each, IsElement, HookIs}
 use Rattle.xo_object.proofs.hooks.hooks_of.Given as goal
 

@@ -1,6 +1,6 @@
 use Rattle.std.proofs.Common.{[], take}
 use Rattle.xo_object.specs.Names.{hook_parameter}
-use Rattle.xo_object.specs.Span.{items_of}
+use Rattle.xo_list.specs.Span.{items_of}
 use Rattle.xo_object.specs.Transaction.{Each, IsElement, ParameterIs, AllDiffer}
 use Rattle.xo_object.proofs.lists.parameters_of.Given as goal
 

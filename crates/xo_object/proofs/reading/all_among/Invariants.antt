@@ -1,5 +1,5 @@
 use Rattle.std.proofs.Common.{◌≡◌, ℕ, List, drop}
-use Rattle.xo_object.specs.Span.{items_of}
+use Rattle.xo_list.specs.Span.{items_of}
 use Rattle.xo_object.specs.Transaction.{only}
 use Rattle.xo_object.proofs.reading.all_among.Given as goal
 

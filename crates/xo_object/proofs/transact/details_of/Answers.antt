@@ -1,5 +1,5 @@
 use Rattle.std.proofs.Common.{subst}
-use Rattle.xo_object.specs.Span.{items}
+use Rattle.xo_list.specs.Span.{items}
 use Rattle.xo_object.specs.Transaction.{DetailsIn}
 use Rattle.xo_object.proofs.Values.{one_list}
 use Rattle.xo_object.proofs.transact.details_of.Goals as goal

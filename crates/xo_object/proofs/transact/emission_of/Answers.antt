@@ -1,7 +1,7 @@
 use Rattle.std.proofs.Common.{subst, true, Some}
-use Rattle.xo_object.specs.Item.{lookup}
+use Rattle.xo_list.specs.Item.{lookup}
 use Rattle.xo_object.specs.Names.{emit_details}
-use Rattle.xo_object.specs.Span.{items}
+use Rattle.xo_list.specs.Span.{items}
 use Rattle.xo_object.specs.Transaction.{EmissionIs}
 use Rattle.xo_object.proofs.transact.emission_of.Goals as goal
 

@@ -1,0 +1,69 @@
+-- The loop that collects the spans of fields.
+use Rattle.std.proofs.Common.{◌≡◌, ℕ, ◌≤◌, true, false, List, [], ◌∷◌, ◌++◌, length, drop, refl, sym, ap, subst, ◌∙◌, arith, append_assoc, append-nil, inl, inr, All}
+use Rattle.std.proofs.lemmas.List.{map-append}
+use Rattle.std.proofs.lemmas.List.Elements.{All-push}
+use Rattle.xo_fields.specs.declared.field.FieldId.{FieldId}
+use Rattle.xo_fields.specs.declared.form.Form.{Form}
+use Rattle.xo_fields.specs.Field.{number}
+use Rattle.xo_list.specs.declared.fault.ObjectFault.{ObjectFault}
+use Rattle.xo_list.specs.declared.skip.Place.{Place}
+use Rattle.xo_list.specs.declared.skip.Place.TheVariants.{Fields, Elements}
+use Rattle.xo_list.specs.Collected.{Collects}
+use Rattle.xo_list.specs.Laws.{OneReading}
+use Rattle.xo_list.specs.declared.span.Span.{Span}
+use Rattle.xo_list.specs.Item.{Item}
+use Rattle.xo_list.specs.Value.{Head, IsValue, IsArray, HasElements}
+use Rattle.xo_list.specs.Fault.{is_array, IsEnd, IsNoEnd, HeadFails, BodyFails, Outcome, ends, fails, Comes, Reads}
+use Rattle.xo_list.specs.Span.{part, item_of, items_of, InRange, IsRead, Valued}
+use Rattle.xo_list.proofs.Parts.{asks_less}
+use Rattle.xo_list.proofs.Leads.{field_stands}
+
+-- these fields stand before this place, and lead to the same outcome
+pub record LeadsTo (room : ℕ) (place : Place) (front : List Item) (last : ℕ) (here whole : List ℕ) : Type 0 where
+  pub lead : (outcome : Outcome) (items : List Item) → Comes (IsValue room) (BodyFails room) place last items here outcome → Comes (IsValue room) (BodyFails room) place 0 (front ++ items) whole outcome
+
+pub record Collected (room : ℕ) (place : Place) (bytes : List ℕ) (spans : List (FieldId × Span)) (last at : ℕ) : Type 0 where
+  pub within : at ≤ length bytes
+  pub leads : LeadsTo room place (items_of bytes spans) last (drop at bytes) bytes
+  pub ranges : All (InRange bytes) spans
+
+pub collected_none : (room : ℕ) (place : Place) (bytes : List ℕ) → Collected room place bytes [] 0 0
+collected_none room place bytes = record { within = omega arith; leads = record { lead = λ outcome items h. h }; ranges = λ k d h. absurd (omega arith) }
+
+pub collected_more : (room : ℕ) (place : Place) (bytes : List ℕ) (spans : List (FieldId × Span)) (last at : ℕ) (f : FieldId) (form : Form) (tail : List ℕ) (span : Span) (next : ℕ) → Collected room place bytes spans last at →
+    Head (is_array place) last f form (drop at bytes) tail → Valued room form tail (part bytes span.from span.to) (drop next bytes) → span.from ≤ span.to → span.to ≤ length bytes → next ≤ length bytes →
+    Collected room place bytes (spans ++ (f, span) ∷ []) (number f) next
+collected_more room place bytes spans last at f form tail span next c h v order within there = record {
+  within = there;
+  leads = record {
+    lead = λ outcome items r.
+        subst (λ xs. Comes (IsValue room) (BodyFails room) place 0 xs bytes outcome) (sym (append_assoc (items_of bytes spans) (item_of bytes (f, span) ∷ []) items) ∙ ap (λ xs. xs ++ items) (sym (map-append (item_of bytes) spans ((f, span) ∷ []))))
+        (c.leads.lead outcome (item_of bytes (f, span) ∷ items) (drop next bytes, field_stands (is_array place) room last f form (drop at bytes) tail (part bytes span.from span.to) (drop next bytes) h v, r));
+  };
+  ranges = All-push (InRange bytes) spans (f, span) c.ranges (order, within);
+}
+
+-- the ways to stop
+pub collected_all : (room : ℕ) (place : Place) (bytes : List ℕ) (spans : List (FieldId × Span)) (last at : ℕ) (rest : List ℕ) → Collected room place bytes spans last at → IsEnd place (drop at bytes) rest → Collects room place bytes spans
+collected_all room place bytes spans last at rest c e =
+    record { comes = (rest, subst (λ xs. Comes (IsValue room) (BodyFails room) place 0 xs bytes (ends rest)) (append-nil (items_of bytes spans)) (c.leads.lead (ends rest) [] e)); ranges = c.ranges }
+
+pub collected_head_fails : (room : ℕ) (place : Place) (bytes : List ℕ) (spans : List (FieldId × Span)) (last at : ℕ) (fault : ObjectFault) → Collected room place bytes spans last at → IsNoEnd place (drop at bytes) →
+    HeadFails (is_array place) last (drop at bytes) fault → Reads room place 0 bytes (fails fault)
+collected_head_fails room place bytes spans last at fault c more h = (items_of bytes spans ++ [], c.leads.lead (fails fault) [] (more, inl h))
+
+pub collected_body_fails : (room : ℕ) (place : Place) (bytes : List ℕ) (spans : List (FieldId × Span)) (last at : ℕ) (f : FieldId) (form : Form) (tail : List ℕ) (fault : ObjectFault) → Collected room place bytes spans last at →
+    IsNoEnd place (drop at bytes) → Head (is_array place) last f form (drop at bytes) tail → BodyFails room form tail fault → Reads room place 0 bytes (fails fault)
+collected_body_fails room place bytes spans last at f form tail fault c more h b = (items_of bytes spans ++ [], c.leads.lead (fails fault) [] (more, inr (f, form, tail, h, b)))
+
+-- an object's and an array's
+pub object_read : (bytes : List ℕ) (spans : List (FieldId × Span)) → Collects 10 Fields bytes spans → IsRead bytes spans
+object_read bytes spans c = record { object = asks_less (IsValue 10) false _ _ (λ n rest h. h.0) 0 (items_of bytes spans) bytes c.comes.1; ranges = c.ranges }
+
+pub array_read : (bytes : List ℕ) (spans : List (FieldId × Span)) → Collects 9 Elements bytes spans → IsArray (items_of bytes spans) bytes
+array_read bytes spans c = asks_less (IsValue 9) true _ _ (λ n rest h. h.0) 0 (items_of bytes spans) bytes c.comes.1
+
+pub array_or_fault : OneReading → (bytes : List ℕ) (fault : ObjectFault) → Reads 9 Elements 0 bytes (fails fault) → HasElements bytes → ⊥
+array_or_fault one bytes fault (b, k) (a, h) =
+    let same : (a ≡ b) × (ends [] ≡ fails fault) = one 9 Elements a b bytes (ends []) (fails fault) (asks_less (IsValue 9) true _ _ (λ last left e. (e, refl)) 0 a bytes h) k in
+    let e : ends [] ≡ fails fault = same.1 in cc

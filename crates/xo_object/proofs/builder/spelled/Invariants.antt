@@ -1,7 +1,0 @@
-use Rattle.std.proofs.Common.{◌≡◌, take}
-use Rattle.xo_object.specs.Builder.{puts}
-use Rattle.xo_object.specs.Item.{spell}
-use Rattle.xo_object.proofs.builder.spelled.Given as goal
-
-abbrev pub invariant-loop-put : goal.invariant-loop-put
-invariant-loop-put l = l.bytes.items ≡ spell (puts (take l.put-index l.fields))

@@ -1,5 +1,0 @@
-use Rattle.xo_object.proofs.Parts.{blob_valued}
-use Rattle.xo_object.proofs.skip.skip_blob.Goals as goal
-
-pub returns-else-bytes-from-clause-value : goal.returns-else-bytes-from-clause-value
-returns-else-bytes-from-clause-value c = blob_valued c.args.bytes.now c.args.at c.in-Length.length c.in-Length.size c.in-Length.ensures.read c.if-bytes-from.false c.requires
