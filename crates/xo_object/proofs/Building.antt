@@ -24,7 +24,8 @@ use Rattle.xo_object.specs.Span.{IsRead, Seen, items}
 use Rattle.xo_object.specs.Value.{IsValue, IsObject}
 use Rattle.xo_object.proofs.ListLemmas.{edits_fit}
 use Rattle.xo_object.proofs.Parts.{asks_less}
-use Rattle.xo_object.proofs.Walk.{lookup_below, lookup_above, spell-append}
+use Rattle.xo_object.proofs.Placing.{spell-append}
+use Rattle.xo_object.proofs.Walk.{lookup_below, lookup_above}
 
 pub never_true : IsTrue false → ⊥
 never_true t = cc

@@ -28,4 +28,6 @@ pub use transact::read_transaction;
 pub use transaction::{Grant, HookItem, Parameter, Transaction, copy_parameters};
 
 #[cfg(test)]
+mod place_tests;
+#[cfg(test)]
 mod tests;
