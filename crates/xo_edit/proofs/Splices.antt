@@ -45,14 +45,14 @@ emplaced_new spelling edits bytes put field items value at object one (before, a
 
 pub emplaced_over : OneSpelling → Edits → (bytes put : List ℕ) (field : FieldId) (items : List Item) (value : List ℕ) (from : ℕ) (old : Span) (to : ℕ) → IsObject items bytes → IsOne put field value → Locates bytes field items (Found from old to) →
     Emplaces bytes put field (take from bytes ++ (put ++ drop to bytes))
-emplaced_over spelling edits bytes put field items value from old to object one (before, after, cuts, whole, order, within) =
+emplaced_over spelling edits bytes put field items value from old to object one (before, after, cuts, whole, order, within, exact) =
     let x : Item = record { field = field; value = value } in
     let y : Item = record { field = field; value = part bytes old.from old.to } in
     emplaced spelling edits bytes put field items before after value from to object one cuts.front cuts.rest (ap (with_item x) whole ∙ with_present x y before after refl cuts.below)
 
 -- one field and no more
 pub one_whole : (bytes : List ℕ) (field : FieldId) (items : List Item) (from : ℕ) (value : Span) (to : ℕ) → IsObject items bytes → Locates bytes field items (Found from value to) → from ≡ 0 → to ≡ length bytes → IsField bytes field
-one_whole bytes field items from value to object (before, after, cuts, whole, order, within) start end =
+one_whole bytes field items from value to object (before, after, cuts, whole, order, within, exact) start end =
     let none_before : before ≡ [] = spell_none before (omega (arith, sym (ap length cuts.front), length-take from bytes, start)) in
     let none_after : after ≡ [] = spell_none after (omega (arith, sym (ap length cuts.rest), length-drop to bytes, end)) in
     let x : Item = record { field = field; value = part bytes value.from value.to } in
@@ -70,7 +70,7 @@ cut_one x a y b e = lengths a b (omega (arith, ap length e, length-append a (y �
     lengths a b h k = (none a h, none b k)
 
 pub whole_one : OneReading → (bytes : List ℕ) (field : FieldId) (items : List Item) (from : ℕ) (value : Span) (to : ℕ) → IsObject items bytes → Locates bytes field items (Found from value to) → IsField bytes field → (from ≡ 0) × (to ≡ length bytes)
-whole_one one bytes field items from value to object (before, after, cuts, whole, order, within) (own, is) =
+whole_one one bytes field items from value to object (before, after, cuts, whole, order, within, exact) (own, is) =
     let x : Item = record { field = field; value = own } in
     let y : Item = record { field = field; value = part bytes value.from value.to } in
     let none : (before ≡ []) × (after ≡ []) = cut_one x before y after (same_fields one (x ∷ []) items bytes is object ∙ whole) in (

@@ -1,29 +1,12 @@
 -- Where a field's value and an element stand in bytes, and that there is none.
-use Rattle.std.specs.Prelude.{◌≡◌, ℕ, ◌≤◌, ◌==◌, ◌||◌, Bool, List, [], ◌∷◌, ◌++◌, length, take, Option, Some, None}
+use Rattle.std.specs.Prelude.{◌≡◌, ℕ, ◌≤◌, List, [], ◌∷◌, ◌++◌, length, take, Some, None}
 use Rattle.xo_fields.specs.declared.field.FieldId.{FieldId}
-use Rattle.xo_fields.specs.declared.form.Form.{Form}
-use Rattle.xo_fields.specs.declared.form.Form.TheVariants.{Fixed, Money, Blob, Account, Object, Array}
 use Rattle.xo_fields.specs.Form.{form_at}
 use Rattle.xo_fields.specs.Header.{header}
-use Rattle.xo_fields.specs.Length.{prefix}
 use Rattle.xo_list.specs.declared.span.Span.{Span}
-use Rattle.xo_list.specs.Item.{Item, spell, lookup}
+use Rattle.xo_list.specs.Item.{Item, lead, spell, lookup}
 use Rattle.xo_list.specs.Span.{part}
 use Rattle.xo_list.specs.Value.{IsObject, IsArray}
-
--- the length before a value, of the kinds that have one
-abbrev pub lead : Option Form → List ℕ → List ℕ
-lead None value = []
-lead (Some (Fixed n)) value = []
-lead (Some Money) value = []
-lead (Some Blob) value = prefix (length value)
-lead (Some Account) value = prefix (length value)
-lead (Some Object) value = []
-lead (Some Array) value = []
-
--- the kinds of nested objects and arrays
-abbrev pub has_mark : FieldId → Bool
-has_mark field = (field.kind == 14) || (field.kind == 15)
 
 -- the object has the field, and its value stands there, behind the fields before, its header and its length
 abbrev pub IsFieldAt : List ℕ → FieldId → Span → Type 0

@@ -1,18 +1,14 @@
 ghost use Rattle.std.specs.Prelude.{◌≡◌, ◌↔◌, Err, IfOk, IsTrue};
-ghost use Rattle.xo_edit.specs.Part.{IsFieldAt, IsElementAt, LacksField, LacksElement, has_mark};
+ghost use Rattle.xo_edit.specs.Part.{IsFieldAt, IsElementAt, LacksField, LacksElement};
 ghost use Rattle.xo_list.specs.Value.{HasFields, HasElements};
 
 use crate::fault::EditFault;
 use xo_fields::FieldId;
 use xo_list::{
-    Located, Place, Span, check_object, locate, one_array, one_reading, one_spelling,
-    skip_elements, skip_fields,
+    Located, Place, Span, check_object, element, locate, one_array, one_reading, one_spelling,
+    skip_fields,
 };
 
-/// The kind of a nested object.
-const OBJECT_KIND: u8 = 14;
-/// The kind of a nested array.
-const ARRAY_KIND: u8 = 15;
 /// How many objects and arrays may be open in an array, which is open itself.
 const ARRAY_ROOM: u8 = 9;
 
@@ -53,28 +49,12 @@ pub fn subfield(bytes: &[u8], field: FieldId) -> Result<Span, EditFault>
     }
     match locate(bytes, field) {
         Located::Absent { at: _ } => Err(EditFault::DoesntExist),
-        Located::Found { from: _, value, to } => {
-            // A value ends where its field ends, or before its end mark.
-            let size = value.to - value.from;
-            if ends_with_mark(field) {
-                return Ok(Span {
-                    from: to - 1 - size,
-                    to: to - 1,
-                });
-            }
-            Ok(Span {
-                from: to - size,
-                to,
-            })
-        }
+        Located::Found {
+            from: _,
+            value,
+            to: _,
+        } => Ok(value),
     }
-}
-
-/// Whether a field ends with an end mark.
-fn ends_with_mark(field: FieldId) -> bool
-    ensures mark { result ≡ has_mark field }
-{
-    field.kind == OBJECT_KIND || field.kind == ARRAY_KIND
 }
 
 /// The span of an element in an array's bytes, with its header and end mark. Takes no memory.
@@ -90,13 +70,8 @@ pub fn subarray(bytes: &[u8], index: u32) -> Result<Span, EditFault>
     if !are_elements(bytes) {
         return Err(EditFault::ParseError);
     }
-    let before = skip_elements(bytes, index);
-    if before.at == bytes.len() {
-        return Err(EditFault::DoesntExist);
+    match element(bytes, index) {
+        None => Err(EditFault::DoesntExist),
+        Some(span) => Ok(span),
     }
-    let element = skip_elements(&bytes[before.at..], 1);
-    Ok(Span {
-        from: before.at,
-        to: before.at + element.at,
-    })
 }

@@ -24,7 +24,8 @@ use Rattle.xo_list.specs.Span.{IsRead, Seen, items}
 use Rattle.xo_list.specs.Value.{IsValue, IsObject}
 use Rattle.xo_list.proofs.ListLemmas.{edits_fit}
 use Rattle.xo_list.proofs.Parts.{asks_less}
-use Rattle.xo_list.proofs.Walk.{lookup_below, lookup_above, spell-append}
+use Rattle.xo_list.proofs.Placing.{spell-append}
+use Rattle.xo_list.proofs.Walk.{lookup_below, lookup_above}
 
 pub never_true : IsTrue false → ⊥
 never_true t = cc

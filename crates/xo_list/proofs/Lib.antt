@@ -3,6 +3,7 @@ pub mod Leads
 pub mod NoWant
 pub mod OneWay
 pub mod ListLemmas
+pub mod Placing
 pub mod Collecting
 pub mod Walk
 pub mod Building

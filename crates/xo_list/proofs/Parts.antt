@@ -13,7 +13,7 @@ use Rattle.xo_fields.specs.Header.{header, HeaderGives}
 use Rattle.xo_fields.specs.Length.{prefix, LengthGives}
 use Rattle.xo_list.specs.declared.fault.ObjectFault.{ObjectFault}
 use Rattle.xo_list.specs.declared.skip.Place.TheVariants.{NestedFields, NestedElements}
-use Rattle.xo_list.specs.Item.{Item, body}
+use Rattle.xo_list.specs.Item.{Item, body, lead}
 use Rattle.xo_list.specs.Value.{Allowed, Head, Goes, Whole, IsValue}
 use Rattle.xo_list.specs.Fault.{BodyFails, Reads, ends, fails}
 use Rattle.xo_list.specs.Span.{part, Valued}
@@ -50,6 +50,18 @@ pub blob_valued : (bytes : List ℕ) (at n size : ℕ) → LengthGives (drop at 
 blob_valued bytes at n size h there within =
     let v : (length (part bytes (at + size) (at + size + n)) ≡ n) × (drop at bytes ≡ (prefix (length (part bytes (at + size) (at + size + n))) ++ part bytes (at + size) (at + size + n)) ++ drop (at + size + n) bytes) = value_after bytes at n size h there within in
     record { fits = omega (arith, v.0, h.0); whole = v.1 }
+
+-- a value stands behind its length
+pub length_before : (bytes : List ℕ) (at n size : ℕ) → LengthGives (drop at bytes) (lengths.Length n size) → n ≤ length bytes - (at + size) → at ≤ length bytes →
+    at + size ≡ at + length (lead (Some Blob) (part bytes (at + size) (at + size + n)))
+length_before bytes at n size h there within =
+    let v : length (part bytes (at + size) (at + size + n)) ≡ n = (value_after bytes at n size h there within).0 in
+    let l : size ≡ length (prefix n) = omega (arith, ap length h.2, length-take size (drop at bytes), h.1) in
+    ap (λ m. at + m) (l ∙ ap (λ m. length (prefix m)) (sym v))
+
+pub account_before : (bytes : List ℕ) (at n size : ℕ) → LengthGives (drop at bytes) (lengths.Length n size) → n ≡ 20 → 20 ≤ length bytes - (at + size) → at ≤ length bytes →
+    at + size ≡ at + length (lead (Some Account) (part bytes (at + size) (at + size + 20)))
+account_before bytes at n size h twenty there within = length_before bytes at 20 size (subst (λ m. LengthGives (drop at bytes) (lengths.Length m size)) twenty h) there within
 
 pub account_valued : (bytes : List ℕ) (at n size : ℕ) → LengthGives (drop at bytes) (lengths.Length n size) → n ≡ 20 → 20 ≤ length bytes - (at + size) → at ≤ length bytes →
     Valued 0 Account (drop at bytes) (part bytes (at + size) (at + size + 20)) (drop (at + size + 20) bytes)

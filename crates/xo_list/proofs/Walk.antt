@@ -1,5 +1,5 @@
 -- The loops that look for a field, and pass over elements.
-use Rattle.std.proofs.Common.{◌≡◌, ℕ, ◌+◌, ◌-◌, ◌<◌, ◌≤◌, Bool, true, false, List, [], ◌∷◌, ◌++◌, length, take, drop, refl, sym, ap, subst, ◌∙◌, arith, append_assoc, append-nil, length-append, length-drop, inl, inr, Some, None, ◌⊎◌}
+use Rattle.std.proofs.Common.{◌≡◌, ℕ, ◌+◌, ◌-◌, ◌<◌, ◌≤◌, Bool, true, false, List, [], ◌∷◌, ◌++◌, length, take, drop, refl, sym, ap, subst, ◌∙◌, arith, append_assoc, append-nil, length-append, length-take, length-drop, inl, inr, Some, None, ◌⊎◌}
 use Rattle.std.specs.Prelude.{slice_get, if◌then◌else◌}
 use Rattle.std.proofs.lemmas.Bool.Decides.{nat_tests}
 use Rattle.std.proofs.lemmas.List.{drop_all, take_at}
@@ -7,27 +7,21 @@ use Rattle.std.proofs.Math.Seq.{take-add}
 use Rattle.xo_fields.specs.declared.field.FieldId.{FieldId}
 use Rattle.xo_fields.specs.declared.form.Form.{Form}
 use Rattle.xo_fields.specs.Field.{number}
-use Rattle.xo_fields.specs.Form.{form_at}
 use Rattle.xo_fields.specs.Header.{header}
 use Rattle.xo_fields.specs.Laws.{OneHeader}
 use Rattle.xo_list.specs.declared.fault.ObjectFault.{ObjectFault}
 use Rattle.xo_list.specs.declared.find.Located.TheVariants.{Found, Absent}
 use Rattle.xo_list.specs.declared.find.Passed.{Passed}
 use Rattle.xo_list.specs.declared.span.Span.{Span}
-use Rattle.xo_list.specs.Item.{Item, body, body_of, spell, lookup, is_same}
+use Rattle.xo_list.specs.Item.{Item, body, body_of, lead, spell, lookup, is_same}
 use Rattle.xo_list.specs.Value.{Head, Stands, Goes, IsValue, IsObject, IsArray}
 use Rattle.xo_list.specs.Fault.{HeadFails, BodyFails}
-use Rattle.xo_list.specs.Span.{part, Valued, FindsElement, FindsValue}
+use Rattle.xo_list.specs.Span.{part, value_span, places, place_of, Valued, FindsElement, FindsValue}
 use Rattle.xo_list.specs.Located.{AllBelow, AllAbove, Locates, Passes}
 use Rattle.xo_list.specs.Laws.{OneField}
 use Rattle.xo_list.proofs.Leads.{field_stands}
 use Rattle.xo_list.proofs.ListLemmas.{listed}
-
-pub spell-append : (a b : List Item) → spell (a ++ b) ≡ spell a ++ spell b
-spell-append [] b = refl
-spell-append (x ∷ xs) b =
-    ap (λ t. header x.field ++ (body_of (form_at x.field.kind) x.value ++ t)) (spell-append xs b)
-    ∙ ap (λ t. header x.field ++ t) (sym (append_assoc (body_of (form_at x.field.kind) x.value) (spell xs) (spell b))) ∙ sym (append_assoc (header x.field) (body_of (form_at x.field.kind) x.value ++ spell xs) (spell b))
+use Rattle.xo_list.proofs.Placing.{spell-append, spell_sum, value_stands, place_below, place_above, place_first}
 
 AllBelow-append : (n : ℕ) (a b : List Item) → AllBelow n a → AllBelow n b → AllBelow n (a ++ b)
 AllBelow-append n [] b h k = k
@@ -51,6 +45,10 @@ between bytes front at next within there e =
     let l : length bytes - at ≡ length front + (length bytes - next) = omega (arith, ap length e, length-append front (drop next bytes), length-drop at bytes, length-drop next bytes) in
     let k : next - at ≡ length front = omega arith in
     (omega arith, ap (λ n. take n (drop at bytes)) k ∙ ap (take (length front)) e ∙ take_at front (drop next bytes) (length front) refl)
+
+-- where what stands behind a front begins
+next_place : (bytes front : List ℕ) (at next : ℕ) → at ≤ length bytes → next ≤ length bytes → drop at bytes ≡ front ++ drop next bytes → next ≡ at + length front
+next_place bytes front at next within there e = omega (arith, ap length e, length-append front (drop next bytes), length-drop at bytes, length-drop next bytes)
 
 left_some : (fits : Form → List ℕ → Type 0) (array : Bool) (last : ℕ) (after : List Item) (here : List ℕ) → 0 < length here → Goes fits array last after here (λ _ rest. rest ≡ []) →
     (x : Item) × (xs : List Item) × (tail : List ℕ) × (after ≡ x ∷ xs) × Stands fits array last x here tail × Goes fits array (number x.field) xs tail (λ _ rest. rest ≡ [])
@@ -142,11 +140,11 @@ same_field f g fc gc e =
     made : ℕ → ℕ → FieldId
     made k n = record { kind = k; code = n }
 
-pub found_here : OneField → (bytes : List ℕ) (field : FieldId) (items : List Item) (last at : ℕ) (f : FieldId) (form : Form) (tail : List ℕ) (span : Span) (next : ℕ) → Behind bytes field items last at → at < length bytes →
-    Head false last f form (drop at bytes) tail → Valued 10 form tail (part bytes span.from span.to) (drop next bytes) → span.from ≤ span.to → span.to ≤ length bytes → next ≤ length bytes → field.code < 256 → number field ≡ number f →
-    Locates bytes field items (Found at span next)
-found_here one bytes field items last at f form tail span next b more h v order within there small e =
-    let n : _ = next_is one bytes field items last at f form tail (part bytes span.from span.to) next b more h v in
+pub found_here : OneField → (bytes : List ℕ) (field : FieldId) (items : List Item) (last at : ℕ) (f : FieldId) (form : Form) (start : ℕ) (span : Span) (next : ℕ) → Behind bytes field items last at → at < length bytes →
+    Head false last f form (drop at bytes) (drop start bytes) → Valued 10 form (drop start bytes) (part bytes span.from span.to) (drop next bytes) → start ≤ length bytes → span.from ≤ span.to → span.to ≤ length bytes → next ≤ length bytes →
+    span.from ≡ start + length (lead (Some form) (part bytes span.from span.to)) → field.code < 256 → number field ≡ number f → Locates bytes field items (Found at span next)
+found_here one bytes field items last at f form start span next b more h v here order within there place_is small e =
+    let n : _ = next_is one bytes field items last at f form (drop start bytes) (part bytes span.from span.to) next b more h v in
     let same : f ≡ field = same_field f field h.is.code_byte small (sym e) in
     let place : (at ≤ next) × (part bytes at next ≡ spell (record { field = f; value = part bytes span.from span.to } ∷ [])) =
     between bytes (spell (record { field = f; value = part bytes span.from span.to } ∷ [])) at next b.within there (spelled_one (IsValue 10) false last (record { field = f; value = part bytes span.from span.to }) (drop at bytes) (drop next bytes) n.2) in (
@@ -163,6 +161,7 @@ found_here one bytes field items last at f form tail span next b more h v order 
       b.whole ∙ ap (λ xs. b.before ++ xs) (n.1 ∙ ap (λ g. record { field = g; value = part bytes span.from span.to } ∷ n.0) same),
       order,
       within,
+      (value_stands false 10 last f form bytes at start span next h v b.within here there order within place_is).0 ∙ ap (λ g. value_span at (record { field = g; value = part bytes span.from span.to })) same,
     )
 
 pub behind_more : OneField → (bytes : List ℕ) (field : FieldId) (items : List Item) (last at : ℕ) (f : FieldId) (form : Form) (tail value : List ℕ) (next : ℕ) → Behind bytes field items last at → at < length bytes →
@@ -195,10 +194,11 @@ pub record Before (bytes : List ℕ) (elements : List Item) (count at : ℕ) : T
   pub whole : elements ≡ before ++ after
   pub number : length before ≡ count
   pub stands : Goes (IsValue 9) true 0 after (drop at bytes) (λ _ rest. rest ≡ [])
+  pub front : at ≡ length (spell before)
   pub within : at ≤ length bytes
 
 pub before_none : (bytes : List ℕ) (elements : List Item) → IsArray elements bytes → Before bytes elements 0 0
-before_none bytes elements h = record { before = []; after = elements; whole = refl; number = refl; stands = h; within = omega arith }
+before_none bytes elements h = record { before = []; after = elements; whole = refl; number = refl; stands = h; front = refl; within = omega arith }
 
 pub no_element_head_fault : OneField → (bytes : List ℕ) (elements : List Item) (count at : ℕ) (fault : ObjectFault) → Before bytes elements count at → at < length bytes → HeadFails true 0 (drop at bytes) fault → ⊥
 no_element_head_fault one bytes elements count at fault b more h =
@@ -230,22 +230,25 @@ pub before_more : OneField → (bytes : List ℕ) (elements : List Item) (count 
     Head true 0 f form (drop at bytes) tail → Valued 9 form tail value (drop next bytes) → next ≤ length bytes → Before bytes elements (count + 1) next
 before_more one bytes elements count at f form tail value next b more h v there =
     let n : _ = element_is one bytes elements count at f form tail value next b more h v in
+    let x : Item = record { field = f; value = value } in
+    let size : next ≡ at + length (spell (x ∷ [])) = next_place bytes (spell (x ∷ [])) at next b.within there (spelled_one (IsValue 9) true 0 x (drop at bytes) (drop next bytes) n.2) in
     record {
-      before = b.before ++ record { field = f; value = value } ∷ [];
+      before = b.before ++ x ∷ [];
       after = n.0;
-      whole = b.whole ∙ ap (λ xs. b.before ++ xs) n.1 ∙ sym (append_assoc b.before (record { field = f; value = value } ∷ []) n.0);
-      number = length-append b.before (record { field = f; value = value } ∷ []) ∙ omega (arith, b.number);
+      whole = b.whole ∙ ap (λ xs. b.before ++ xs) n.1 ∙ sym (append_assoc b.before (x ∷ []) n.0);
+      number = length-append b.before (x ∷ []) ∙ omega (arith, b.number);
       stands = n.3;
+      front = omega (arith, size, b.front, spell_sum b.before (x ∷ []));
       within = there;
     }
 
 pub passes_all : (bytes : List ℕ) (elements : List Item) (count at wanted : ℕ) → Before bytes elements count at → count ≤ wanted → at ≡ length bytes → Passes bytes elements wanted (record { count = count; at = at })
 passes_all bytes elements count at wanted b le end =
     let none : b.after ≡ [] = left_none (IsValue 9) true 0 b.after (drop at bytes) (drop_all at bytes (omega arith)) b.stands in
-    (b.before, b.after, b.whole, b.number, le, λ less. none, b.within, b.stands)
+    (b.before, b.after, b.whole, b.number, le, λ less. none, b.within, b.stands, b.front)
 
 pub passes_enough : (bytes : List ℕ) (elements : List Item) (count at wanted : ℕ) → Before bytes elements count at → count ≤ wanted → wanted ≤ count → Passes bytes elements wanted (record { count = count; at = at })
-passes_enough bytes elements count at wanted b le enough = (b.before, b.after, b.whole, b.number, le, λ less. absurd (omega arith), b.within, b.stands)
+passes_enough bytes elements count at wanted b le enough = (b.before, b.after, b.whole, b.number, le, λ less. absurd (omega arith), b.within, b.stands, b.front)
 
 -- an array has fewer elements than bytes
 fewer : (after : List Item) (bytes : List ℕ) → Goes (IsValue 9) true 0 after bytes (λ _ rest. rest ≡ []) → length after ≤ length bytes
@@ -280,7 +283,7 @@ element_end bytes elements index passed p end =
     omega (arith, ap length p.2, length-append p.0 p.1, ap length none, p.3, p.4)
 
 pub before_of : (bytes : List ℕ) (elements : List Item) (index : ℕ) (passed : Passed) → Passes bytes elements index passed → Before bytes elements passed.count passed.at
-before_of bytes elements index passed p = record { before = p.0; after = p.1; whole = p.2; number = p.3; stands = p.7; within = p.6 }
+before_of bytes elements index passed p = record { before = p.0; after = p.1; whole = p.2; number = p.3; stands = p.7; front = p.8; within = p.6 }
 
 nth : (a : List Item) (x : Item) (b : List Item) → slice_get (a ++ x ∷ b) (length a) ≡ Some x
 nth [] x b = refl
@@ -294,7 +297,9 @@ element_found one bytes elements index passed f form tail value next p enough mo
     let x : Item = record { field = f; value = value } in
     let place : (passed.at ≤ next) × (part bytes passed.at next ≡ spell (x ∷ [])) = between bytes (spell (x ∷ [])) passed.at next b.within there (spelled_one (IsValue 9) true 0 x (drop passed.at bytes) (drop next bytes) n.2) in
     let at_index : index ≡ length b.before = omega (arith, p.4, b.number) in
-    (place.0, there, (x, ap (λ xs. slice_get xs index) (b.whole ∙ ap (λ xs. b.before ++ xs) n.1) ∙ ap (λ i. slice_get (b.before ++ x ∷ n.0) i) at_index ∙ nth b.before x n.0, place.1))
+    let front : passed.at ≡ length (spell (take index elements)) =
+    b.front ∙ ap (λ xs. length (spell xs)) (sym (take_at b.before b.after index (sym at_index))) ∙ ap (λ xs. length (spell (take index xs))) (sym b.whole) in
+    (place.0, there, (x, ap (λ xs. slice_get xs index) (b.whole ∙ ap (λ xs. b.before ++ xs) n.1) ∙ ap (λ i. slice_get (b.before ++ x ∷ n.0) i) at_index ∙ nth b.before x n.0, place.1), front)
 
 -- what is located is what lookup finds
 pub lookup_below : (f : FieldId) (a b : List Item) → AllBelow (number f) a → lookup f (a ++ b) ≡ lookup f b
@@ -320,8 +325,19 @@ lookup_first : (f : FieldId) (value : List ℕ) (b : List Item) → lookup f (re
 lookup_first f value b = ap (λ same. if same then Some value else lookup f b) (same_itself f)
 
 pub found_value : (bytes : List ℕ) (field : FieldId) (items : List Item) (from : ℕ) (value : Span) (to : ℕ) → Locates bytes field items (Found from value to) → FindsValue bytes (lookup field items) (Some value)
-found_value bytes field items from value to (before, after, cuts, whole, order, within) =
+found_value bytes field items from value to (before, after, cuts, whole, order, within, exact) =
     (order, within, ap (lookup field) whole ∙ lookup_below field before _ cuts.below ∙ lookup_first field (part bytes value.from value.to) after)
 
 pub absent_value : (bytes : List ℕ) (field : FieldId) (items : List Item) (at : ℕ) → Locates bytes field items (Absent at) → FindsValue bytes (lookup field items) None
 absent_value bytes field items at (before, after, cuts, whole) = ap (lookup field) whole ∙ lookup_below field before after cuts.below ∙ lookup_above field after cuts.above
+
+pub found_place : (bytes : List ℕ) (field : FieldId) (items : List Item) (from : ℕ) (value : Span) (to : ℕ) → Locates bytes field items (Found from value to) → Some value ≡ place_of field (places 0 items)
+found_place bytes field items from value to (before, after, cuts, whole, order, within, exact) =
+    let v : List ℕ = part bytes value.from value.to in
+    let start : from ≡ 0 + length (spell before) = omega (arith, cuts.order, cuts.within, ap length cuts.front, length-take from bytes) in
+    ap Some exact ∙ ap (λ n. Some (value_span n (record { field = field; value = v }))) start ∙ sym (place_first field (0 + length (spell before)) v after)
+    ∙ sym (place_below field 0 before (record { field = field; value = v } ∷ after) cuts.below) ∙ ap (λ xs. place_of field (places 0 xs)) (sym whole)
+
+pub absent_place : (bytes : List ℕ) (field : FieldId) (items : List Item) (at : ℕ) → Locates bytes field items (Absent at) → None ≡ place_of field (places 0 items)
+absent_place bytes field items at (before, after, cuts, whole) =
+    sym (ap (λ xs. place_of field (places 0 xs)) whole ∙ place_below field 0 before after cuts.below ∙ place_above field (0 + length (spell before)) after cuts.above)

@@ -26,6 +26,20 @@ abbrev pub body_of : Option Form → List ℕ → List ℕ
 body_of None value = value
 body_of (Some form) value = body form value
 
+-- the length before a value, of the forms that have one
+abbrev pub lead : Option Form → List ℕ → List ℕ
+lead None value = []
+lead (Some (Fixed n)) value = []
+lead (Some Money) value = []
+lead (Some Blob) value = prefix (length value)
+lead (Some Account) value = prefix (length value)
+lead (Some Object) value = []
+lead (Some Array) value = []
+
+-- what stands before a field's value: its header, and its length where it has one
+abbrev pub opening : Item → List ℕ
+opening x = header x.field ++ lead (form_at x.field.kind) x.value
+
 -- a list of fields as it is written
 abbrev pub spell : List Item → List ℕ
 spell [] = []

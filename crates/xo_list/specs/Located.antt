@@ -7,7 +7,7 @@ use Rattle.xo_list.specs.declared.find.Located.TheVariants.{Found, Absent}
 use Rattle.xo_list.specs.declared.find.Passed.{Passed}
 use Rattle.xo_list.specs.Item.{Item, spell}
 use Rattle.xo_list.specs.Value.{Goes, IsValue}
-use Rattle.xo_list.specs.Span.{part}
+use Rattle.xo_list.specs.Span.{part, value_span}
 
 abbrev pub AllBelow : ℕ → List Item → Type 0
 AllBelow n [] = Unit {0}
@@ -31,6 +31,7 @@ abbrev pub Locates : List ℕ → FieldId → List Item → Located → Type 0
 Locates bytes field items (Found from value to) =
     (before : List Item) × (after : List Item) × Cuts bytes field before after from to
     × (items ≡ before ++ record { field = field; value = part bytes value.from value.to } ∷ after) × (value.from ≤ value.to) × (value.to ≤ length bytes)
+    × (value ≡ value_span from (record { field = field; value = part bytes value.from value.to }))
 Locates bytes field items (Absent at) = (before : List Item) × (after : List Item) × Cuts bytes field before after at at × (items ≡ before ++ after)
 
 -- so many elements were passed over, and no more only where there are no more
@@ -38,3 +39,4 @@ abbrev pub Passes : List ℕ → List Item → ℕ → Passed → Type 0
 Passes bytes elements count passed =
     (before : List Item) × (after : List Item) × (elements ≡ before ++ after) × (length before ≡ passed.count) × (passed.count ≤ count) × (passed.count < count → after ≡ [])
     × (passed.at ≤ length bytes) × Goes (IsValue 9) true 0 after (drop passed.at bytes) (λ last rest. rest ≡ [])
+    × (passed.at ≡ length (spell before))

@@ -1,7 +1,7 @@
 ghost use Rattle.std.specs.Prelude.{◌≡◌, ◌<◌, ◌≤◌, ◌^◌, List, length};
 ghost use Rattle.xo_list.specs.Item.{Item, lookup};
 ghost use Rattle.xo_list.specs.Value.{HasFields, HasElements, IsObject, IsArray};
-ghost use Rattle.xo_list.specs.Span.{FindsValue, FindsElement};
+ghost use Rattle.xo_list.specs.Span.{places, place_of, FindsValue, FindsElement};
 ghost use Rattle.xo_list.specs.Located.{Locates, Passes};
 
 use crate::check::DEPTH;
@@ -32,6 +32,7 @@ pub struct Passed {
 pub fn find_field(bytes: &[u8], field: FieldId) -> Option<Span>
     requires { HasFields bytes.now }
     ensures found { (items : List Item) → IsObject items bytes.now → FindsValue bytes.now (lookup field items) result }
+    ensures place { (items : List Item) → IsObject items bytes.now → result ≡ place_of field (places 0 items) }
 {
     match locate(bytes, field) {
         Located::Found {

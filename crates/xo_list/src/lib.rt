@@ -20,4 +20,6 @@ pub use skip::{Place, Skipped, skip_fields, skip_value};
 pub use span::Span;
 
 #[cfg(test)]
+mod place_tests;
+#[cfg(test)]
 mod tests;

@@ -1,8 +1,8 @@
-ghost use Rattle.std.specs.Prelude.{◌≡◌, Some, None, IfOk, IfErr, IfSome, IfNone, All};
+ghost use Rattle.std.specs.Prelude.{◌≡◌, Some, None, IfOk, IfErr, IfSome, IfNone, All, length};
 ghost use Rattle.xo_list.specs.declared.fault.ObjectFault.{ObjectFault};
 ghost use Rattle.xo_list.specs.Item.{lookup};
 ghost use Rattle.xo_list.specs.Fault.{IsFault, Reads, fails};
-ghost use Rattle.xo_list.specs.Span.{items, items_of, InRange, IsRead};
+ghost use Rattle.xo_list.specs.Span.{items, items_of, places, InOrder, InRange, IsRead};
 ghost use Rattle.xo_list.specs.Collected.{Collects};
 ghost use Rattle.xo_list.specs.Value.{IsArray, HasElements};
 
@@ -41,7 +41,7 @@ impl Object {
         value_of(self.bytes.as_slice(), self.spans.as_slice(), field)
     }
 
-    /// The fields in rising order, each with the span of its value.
+    /// The fields in rising order, each with the place of its value.
     pub fn items(&self) -> &[(FieldId, Span)]
         ensures spans { result.now ≡ self.now.spans }
         ensures read { IsRead self.now.bytes self.now.spans }
@@ -130,6 +130,8 @@ pub fn collect(
 /// The elements of an array's bytes, each with the span of its value.
 pub fn read_elements(alloc: Global, bytes: &[u8]) -> Result<Vec<(FieldId, Span)>, ObjectFault>
     ensures ok { IfOk result (λ spans. IsArray (items_of bytes.now spans.items) bytes.now) }
+    ensures exact { IfOk result (λ spans. spans.items ≡ places 0 (items_of bytes.now spans.items)) }
+    ensures order { IfOk result (λ spans. InOrder 0 (length bytes.now) spans.items) }
     ensures ranges { IfOk result (λ spans. All (InRange bytes.now) spans.items) }
     ensures fault { IfErr result (λ fault. (fault ≡ ObjectFault.NoMemory → ⊥) → HasElements bytes.now → ⊥) }
 {

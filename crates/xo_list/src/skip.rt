@@ -1,7 +1,8 @@
-ghost use Rattle.std.specs.Prelude.{◌≡◌, ◌+◌, ◌*◌, ◌≤◌, ◌<◌, ◌∷◌, Bool, List, ℕ, length, take, drop, MatchOption, MatchResult, IfOk};
+ghost use Rattle.std.specs.Prelude.{◌≡◌, ◌+◌, ◌*◌, ◌≤◌, ◌<◌, ◌∷◌, Bool, List, ℕ, length, take, drop, Some, MatchOption, MatchResult, IfOk};
 ghost use Rattle.xo_fields.specs.declared.field.FieldId.{FieldId};
 ghost use Rattle.xo_list.specs.Value.{Allowed, Head, IsValue};
 ghost use Rattle.xo_list.specs.Fault.{is_array, IsEnd, IsNoEnd, HeaderFault, HeadFails, BodyFails, Reads, ends, fails};
+ghost use Rattle.xo_list.specs.Item.{lead};
 ghost use Rattle.xo_list.specs.Span.{part, Valued};
 
 use crate::fault::ObjectFault;
@@ -143,6 +144,7 @@ pub fn skip_value(bytes: &[u8], at: usize, form: Form, room: u8) -> Result<Skipp
     requires { at ≤ length bytes.now }
     ensures within { IfOk result (λ v. (at ≤ v.from) × (v.from ≤ v.to) × (v.to ≤ v.next) × (v.next ≤ length bytes.now)) }
     ensures value { MatchResult result (λ v. Valued room form (drop at bytes.now) (part bytes.now v.from v.to) (drop v.next bytes.now)) (λ fault. BodyFails room form (drop at bytes.now) fault) }
+    ensures place { IfOk result (λ v. v.from ≡ at + length (lead (Some form) (part bytes.now v.from v.to))) }
 {
     match form {
         Form::Fixed(size) => skip_fixed(bytes, at, size),
@@ -182,6 +184,7 @@ fn skip_fixed(bytes: &[u8], at: usize, size: usize) -> Result<Skipped, ObjectFau
     requires { at ≤ length bytes.now }
     ensures within { IfOk result (λ v. (at ≤ v.from) × (v.from ≤ v.to) × (v.to ≤ v.next) × (v.next ≤ length bytes.now)) }
     ensures value { MatchResult result (λ v. Valued 0 (Form.Fixed size) (drop at bytes.now) (part bytes.now v.from v.to) (drop v.next bytes.now)) (λ fault. BodyFails 0 (Form.Fixed size) (drop at bytes.now) fault) }
+    ensures place { IfOk result (λ v. v.from ≡ at + length (lead (Some (Form.Fixed size)) (part bytes.now v.from v.to))) }
 {
     if bytes.len() - at < size {
         return Err(ObjectFault::Cut);
@@ -198,6 +201,7 @@ fn skip_amount(bytes: &[u8], at: usize) -> Result<Skipped, ObjectFault>
     requires { at ≤ length bytes.now }
     ensures within { IfOk result (λ v. (at ≤ v.from) × (v.from ≤ v.to) × (v.to ≤ v.next) × (v.next ≤ length bytes.now)) }
     ensures value { MatchResult result (λ v. Valued 0 Form.Money (drop at bytes.now) (part bytes.now v.from v.to) (drop v.next bytes.now)) (λ fault. BodyFails 0 Form.Money (drop at bytes.now) fault) }
+    ensures place { IfOk result (λ v. v.from ≡ at + length (lead (Some Form.Money) (part bytes.now v.from v.to))) }
 {
     match read_amount(bytes, at) {
         AmountRead::Cut => Err(ObjectFault::Cut),
@@ -217,6 +221,7 @@ fn skip_blob(bytes: &[u8], at: usize) -> Result<Skipped, ObjectFault>
     requires { at ≤ length bytes.now }
     ensures within { IfOk result (λ v. (at ≤ v.from) × (v.from ≤ v.to) × (v.to ≤ v.next) × (v.next ≤ length bytes.now)) }
     ensures value { MatchResult result (λ v. Valued 0 Form.Blob (drop at bytes.now) (part bytes.now v.from v.to) (drop v.next bytes.now)) (λ fault. BodyFails 0 Form.Blob (drop at bytes.now) fault) }
+    ensures place { IfOk result (λ v. v.from ≡ at + length (lead (Some Form.Blob) (part bytes.now v.from v.to))) }
 {
     match read_length(bytes, at) {
         LengthRead::Cut => Err(ObjectFault::Cut),
@@ -240,6 +245,7 @@ fn skip_account(bytes: &[u8], at: usize) -> Result<Skipped, ObjectFault>
     requires { at ≤ length bytes.now }
     ensures within { IfOk result (λ v. (at ≤ v.from) × (v.from ≤ v.to) × (v.to ≤ v.next) × (v.next ≤ length bytes.now)) }
     ensures value { MatchResult result (λ v. Valued 0 Form.Account (drop at bytes.now) (part bytes.now v.from v.to) (drop v.next bytes.now)) (λ fault. BodyFails 0 Form.Account (drop at bytes.now) fault) }
+    ensures place { IfOk result (λ v. v.from ≡ at + length (lead (Some Form.Account) (part bytes.now v.from v.to))) }
 {
     match read_length(bytes, at) {
         LengthRead::Cut => Err(ObjectFault::Cut),

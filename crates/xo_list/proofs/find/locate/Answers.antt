@@ -25,8 +25,8 @@ returns-in-Err-skip_value c = record {
 pub returns-then-wanted-number-2 : goal.returns-then-wanted-number-2
 returns-then-wanted-number-2 c = let w : _ = c.in-Ok-skip_value.ensures.within in record {
   located = λ items h.
-      found_here c.one_field.ensures.law c.args.bytes.now c.args.field items c.fields.last c.fields.at c.in-Ok.start.field c.in-Ok.start.form _ (record { from = c.in-Ok-skip_value.value.from; to = c.in-Ok-skip_value.value.to }) c.in-Ok-skip_value.value.next
-      (c.fields.invariant items h) c.fields-test.true c.in-Ok.ensures.start c.in-Ok-skip_value.ensures.value w.1 (omega (arith, w)) w.3 c.number-wanted.ensures.bytes.1
+      found_here c.one_field.ensures.law c.args.bytes.now c.args.field items c.fields.last c.fields.at c.in-Ok.start.field c.in-Ok.start.form c.in-Ok.start.from (record { from = c.in-Ok-skip_value.value.from; to = c.in-Ok-skip_value.value.to }) c.in-Ok-skip_value.value.next
+      (c.fields.invariant items h) c.fields-test.true c.in-Ok.ensures.start c.in-Ok-skip_value.ensures.value (omega (arith, c.in-Ok.ensures.within)) w.1 (omega (arith, w)) w.3 c.in-Ok-skip_value.ensures.place c.number-wanted.ensures.bytes.1
       (omega (arith, c.number-wanted.ensures.number, c.number-number.ensures.number, c.if-wanted-number-2.true));
 }
 

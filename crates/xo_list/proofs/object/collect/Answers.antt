@@ -27,6 +27,6 @@ fields-preserved c =
     let w : _ = c.in-Ok-skip_value.ensures.within in
     subst (λ n. Collected c.args.room c.args.place c.args.bytes.now c.push.new.self.items n c.in-Ok-skip_value.value.next) (sym c.number-last.ensures.number)
     (subst (λ xs. Collected c.args.room c.args.place c.args.bytes.now xs (number c.in-Ok.start.field) c.in-Ok-skip_value.value.next) (sym c.in_default-push.ensures.items)
-    (collected_more c.args.room c.args.place c.args.bytes.now c.fields.spans.items c.fields.last c.fields.at c.in-Ok.start.field c.in-Ok.start.form _ (record { from = c.in-Ok-skip_value.value.from; to = c.in-Ok-skip_value.value.to }) c.in-Ok-skip_value.value.next
+    (collected_more c.args.room c.args.place c.args.bytes.now c.fields.spans.items c.fields.last c.fields.at c.in-Ok.start.field c.in-Ok.start.form c.in-Ok.start.from (record { from = c.in-Ok-skip_value.value.from; to = c.in-Ok-skip_value.value.to }) c.in-Ok-skip_value.value.next
     c.fields.invariant (subst (λ a. Head a c.fields.last c.in-Ok.start.field c.in-Ok.start.form (drop c.fields.at c.args.bytes.now) (drop c.in-Ok.start.from c.args.bytes.now)) c.holds_elements-array.ensures.array c.in-Ok.ensures.start)
-    c.in-Ok-skip_value.ensures.value w.1 (omega (arith, w)) w.3))
+    c.in-Ok-skip_value.ensures.value (omega (arith, c.in-Ok.ensures.within)) w.1 w.2 w.3 c.in-Ok-skip_value.ensures.place))
