@@ -1,4 +1,4 @@
--- What the readers' private helpers answer, by cases on the first bytes. No public clause names it.
+-- What the readers' private helpers answer, by cases on the first bytes. Public clauses use it through hk_reading's `reading` alone, which a law ties to the relation.
 use Rattle.std.specs.Prelude.{ℕ, ◌+◌, ◌-◌, ◌*◌, ◌/◌, ◌%◌, ◌==◌, ◌&&◌, List, [], ◌∷◌, if◌then◌else◌, nat_lt, nat_le, Option, Some, None}
 use Rattle.xo_fields.specs.declared.header.HeaderRead.{HeaderRead}
 use Rattle.xo_fields.specs.declared.header.HeaderRead.TheVariants.{Cut, Bad, Header}

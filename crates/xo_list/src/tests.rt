@@ -99,6 +99,10 @@ fn parts(rt: HostRuntime) -> Result<(), Fail> {
     let elements: [u8; 7] = [0xea, 0x7d, 0x01, 0xab, 0xe1, 0xea, 0xe1];
     let read = read_elements(rt.alloc(), &elements)?;
     assert_eq!(rt; read.len(), 2);
+    assert_eq!(rt; count_elements(&elements), 2);
+    let flags = [0x22, 0, 0, 0, 0];
+    let one = read_object(rt.alloc(), &flags)?;
+    assert!(rt; one.items() == [(FLAGS, Span { from: 1, to: 5 })].as_slice());
     Ok(())
 }
 

@@ -4,7 +4,6 @@ ghost use Rattle.xo_object.specs.declared.transaction.HookItem.TheVariants.{Crea
 
 use crate::transaction::{Grant, HookItem, Parameter, copy_parameters};
 use hk_base::{Hash256, Items, NoMemory};
-use std::alloc::Global;
 
 /// What an item that installs a hook says of it besides its code.
 #[derive(Drop)]
@@ -63,7 +62,6 @@ impl Terms {
 
 /// Terms of the same lists.
 pub fn copy_terms(
-    alloc: Global,
     on: Hash256,
     namespace: Hash256,
     parameters: &Items<Parameter>,
@@ -72,7 +70,7 @@ pub fn copy_terms(
 ) -> Result<Terms, NoMemory>
     ensures same { IfOk result (λ terms. terms ≡ record { on = on; namespace = namespace; parameters = parameters.now; grants = grants.now; replace = replace }) }
 {
-    let parameters = copy_parameters(alloc, parameters.as_slice())?;
+    let parameters = copy_parameters(parameters.allocator(), parameters.as_slice())?;
     let grants = grants.copy()?;
     Ok(Terms {
         on,

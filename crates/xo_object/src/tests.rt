@@ -134,6 +134,7 @@ fn transactions(rt: HostRuntime) -> Result<(), Fail> {
 
 #[test]
 fn copies(rt: HostRuntime) -> Result<(), Fail> {
+    let parameters = many(rt.alloc(), 2)?;
     let object = object_of(
         rt.alloc(),
         &[
@@ -143,13 +144,20 @@ fn copies(rt: HostRuntime) -> Result<(), Fail> {
             PAID,
             ACCOUNT,
             DESTINATION,
+            parameters.as_slice(),
         ],
     )?;
     let payment = read_transaction(rt.alloc(), &object, false)?;
     assert_eq!(rt; payment.amount, Some(Amount::Native(1_000_000)));
-    let copied = payment.copy(rt.alloc())?;
+    let copied = payment.copy()?;
     assert_eq!(rt; copied.id, payment.id);
     assert_eq!(rt; copied.destination, payment.destination);
+    assert!(rt; copied.blob.as_slice() == payment.blob.as_slice());
+    assert_eq!(rt; copied.parameters.len(), 2);
+    for (number, parameter) in copied.parameters.as_slice().iter().enumerate() {
+        assert!(rt; parameter.name.as_slice() == [number as u8].as_slice());
+        assert!(rt; parameter.value.is_empty());
+    }
     Ok(())
 }
 
@@ -303,7 +311,7 @@ fn shown(item: &HookItem) -> (u8, usize, usize, bool) {
     }
 }
 
-/// What is shown of the only item of a change of hooks, or the fault.
+/// What is shown of the only item of a change of hooks, copied, or the fault.
 fn item_of(alloc: Global, parts: &[&[u8]]) -> Result<(u8, usize, usize, bool), TransactionFault> {
     let mut bytes = Vec::new(alloc);
     for part in [&[0x12, 0, 22], SEQUENCE_1, PAID, ACCOUNT, &[0xfb, 0xee]] {
@@ -323,9 +331,12 @@ fn item_of(alloc: Global, parts: &[&[u8]]) -> Result<(u8, usize, usize, bool), T
         Err(_) => Err(TransactionFault::NoMemory),
         Ok(object) => {
             let transaction = read_transaction(alloc, &object, false)?;
-            match transaction.hooks.as_slice().first() {
-                None => Err(TransactionFault::NoMemory),
-                Some(item) => Ok(shown(item)),
+            match transaction.copy() {
+                Err(_) => Err(TransactionFault::NoMemory),
+                Ok(copied) => match copied.hooks.as_slice().first() {
+                    None => Err(TransactionFault::NoMemory),
+                    Some(item) => Ok(shown(item)),
+                },
             }
         }
     }

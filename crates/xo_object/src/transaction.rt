@@ -80,7 +80,7 @@ pub enum HookItem {
 
 impl HookItem {
     /// An equal item.
-    pub fn copy(&self, alloc: Global) -> Result<HookItem, NoMemory>
+    pub fn copy(&self) -> Result<HookItem, NoMemory>
         ensures same { IfOk result (λ copied. copied ≡ self.now) }
     {
         match self {
@@ -96,7 +96,7 @@ impl HookItem {
                 grants,
                 replace,
             } => {
-                let terms = copy_terms(alloc, *on, *namespace, parameters, grants, *replace)?;
+                let terms = copy_terms(*on, *namespace, parameters, grants, *replace)?;
                 Ok(terms.create(code.copy()?, *version))
             }
             HookItem::Install {
@@ -107,7 +107,7 @@ impl HookItem {
                 grants,
                 replace,
             } => {
-                let terms = copy_terms(alloc, *on, *namespace, parameters, grants, *replace)?;
+                let terms = copy_terms(*on, *namespace, parameters, grants, *replace)?;
                 Ok(terms.install(*hash))
             }
             HookItem::Update {
@@ -115,7 +115,7 @@ impl HookItem {
                 namespace,
                 parameters,
                 grants,
-            } => copy_update(alloc, *on, *namespace, parameters, grants),
+            } => copy_update(*on, *namespace, parameters, grants),
         }
     }
 }
@@ -151,11 +151,11 @@ pub struct Transaction {
 
 impl Transaction {
     /// An equal transaction.
-    pub fn copy(&self, alloc: Global) -> Result<Transaction, NoMemory>
+    pub fn copy(&self) -> Result<Transaction, NoMemory>
         ensures same { IfOk result (λ copied. copied ≡ self.now) }
     {
-        let parameters = copy_parameters(alloc, self.parameters.as_slice())?;
-        let hooks = copy_hooks(alloc, self.hooks.as_slice())?;
+        let parameters = copy_parameters(self.parameters.allocator(), self.parameters.as_slice())?;
+        let hooks = copy_hooks(self.hooks.allocator(), self.hooks.as_slice())?;
         let blob = self.blob.copy()?;
         Ok(Transaction {
             kind: self.kind,
@@ -198,7 +198,7 @@ fn copy_hooks(alloc: Global, hooks: &[HookItem]) -> Result<Items<HookItem>, NoMe
 {
     let mut copied = Items::new(alloc);
     for hook in hooks {
-        let own = hook.copy(alloc)?;
+        let own = hook.copy()?;
         copied.push(own)?;
     }
     Ok(copied)
@@ -206,7 +206,6 @@ fn copy_hooks(alloc: Global, hooks: &[HookItem]) -> Result<Items<HookItem>, NoMe
 
 /// The item that replaces the same.
 fn copy_update(
-    alloc: Global,
     on: Option<Hash256>,
     namespace: Option<Hash256>,
     parameters: &Option<Items<Parameter>>,
@@ -214,7 +213,7 @@ fn copy_update(
 ) -> Result<HookItem, NoMemory>
     ensures same { IfOk result (λ item. item ≡ Update on namespace parameters.now grants.now) }
 {
-    let parameters = copy_given_parameters(alloc, parameters)?;
+    let parameters = copy_given_parameters(parameters)?;
     let grants = copy_given_grants(grants)?;
     Ok(HookItem::Update {
         on,
@@ -225,7 +224,6 @@ fn copy_update(
 }
 
 fn copy_given_parameters(
-    alloc: Global,
     parameters: &Option<Items<Parameter>>,
 ) -> Result<Option<Items<Parameter>>, NoMemory>
     ensures same { IfOk result (λ copied. copied ≡ parameters.now) }
@@ -233,7 +231,7 @@ fn copy_given_parameters(
     match parameters {
         None => Ok(None),
         Some(given) => {
-            let own = copy_parameters(alloc, given.as_slice())?;
+            let own = copy_parameters(given.allocator(), given.as_slice())?;
             Ok(Some(own))
         }
     }
