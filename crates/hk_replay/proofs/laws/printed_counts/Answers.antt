@@ -7,8 +7,9 @@ use Rattle.hk_replay.proofs.laws.printed_counts.Goals as goal
 pub returns : goal.returns
 returns c = record {
   law = λ code text answer.
-    let held = answer.held in
-    let most = c.runs_within.ensures.law held (record { code = code; holds = answer.holds }) «export».Hook no_calls 0 0 held.bound_hook answer.holds.bound_hook in
-    let same = c.one_ending.ensures.law no_calls held.wasm is_hook 0 0 answer.outcome most.outcome answer.count most.count answer.after most.after answer.run most.run in
-    let (counts : answer.count ≡ most.count) = same.1 in let within = most.within in omega (arith, counts, within);
+      let held = answer.held in
+      let most = c.runs_within.ensures.law held (record { code = code; holds = answer.holds }) «export».Hook no_calls 0 0 held.bound_hook answer.holds.bound_hook in
+      let same = c.one_ending.ensures.law no_calls held.wasm is_hook 0 0 answer.outcome most.outcome answer.count most.count answer.after most.after answer.run most.run in
+      let counts : answer.count ≡ most.count = same.1 in
+      let within = most.within in omega (arith, counts, within);
 }
