@@ -99,3 +99,7 @@ Reads room place last bytes outcome = (items : List Item) × Comes (IsValue room
 -- the leftmost field of an object's bytes that fails has this fault
 abbrev pub IsFault : List ℕ → ObjectFault → Type 0
 IsFault bytes fault = Reads 10 Fields 0 bytes (fails fault)
+
+-- the leftmost element of an array's bytes that fails has this fault
+abbrev pub IsArrayFault : List ℕ → ObjectFault → Type 0
+IsArrayFault bytes fault = Reads 9 Elements 0 bytes (fails fault)

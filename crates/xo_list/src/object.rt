@@ -1,7 +1,7 @@
 ghost use Rattle.std.specs.Prelude.{◌≡◌, Some, None, IfOk, IfErr, IfSome, IfNone, All, length};
 ghost use Rattle.xo_list.specs.declared.fault.ObjectFault.{ObjectFault};
 ghost use Rattle.xo_list.specs.Item.{lookup};
-ghost use Rattle.xo_list.specs.Fault.{IsFault, Reads, fails};
+ghost use Rattle.xo_list.specs.Fault.{IsFault, IsArrayFault, Reads, fails};
 ghost use Rattle.xo_list.specs.Span.{items, items_of, places, InOrder, InRange, IsRead};
 ghost use Rattle.xo_list.specs.Collected.{Collects};
 ghost use Rattle.xo_list.specs.Value.{IsArray, HasElements};
@@ -127,12 +127,15 @@ pub fn collect(
     }
 }
 
-/// The elements of an array's bytes, each with the span of its value.
+/// The elements of an array's bytes, each with the place of its value.
+///
+/// The fault is that of the leftmost element that fails.
 pub fn read_elements(alloc: Global, bytes: &[u8]) -> Result<Vec<(FieldId, Span)>, ObjectFault>
     ensures ok { IfOk result (λ spans. IsArray (items_of bytes.now spans.items) bytes.now) }
     ensures exact { IfOk result (λ spans. spans.items ≡ places 0 (items_of bytes.now spans.items)) }
     ensures order { IfOk result (λ spans. InOrder 0 (length bytes.now) spans.items) }
     ensures ranges { IfOk result (λ spans. All (InRange bytes.now) spans.items) }
+    ensures cause { IfErr result (λ fault. (fault ≡ ObjectFault.NoMemory → ⊥) → IsArrayFault bytes.now fault) }
     ensures fault { IfErr result (λ fault. (fault ≡ ObjectFault.NoMemory → ⊥) → HasElements bytes.now → ⊥) }
 {
     one_reading();

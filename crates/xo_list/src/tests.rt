@@ -132,3 +132,23 @@ fn builders(rt: HostRuntime) -> Result<(), Fail> {
     assert!(rt; built.bytes() == [0x22, 0, 0, 0, 0, 0x24, 0, 0, 0, 1].as_slice());
     Ok(())
 }
+
+#[test]
+fn faults_of_the_leftmost_element(rt: HostRuntime) {
+    let rows: [(&[u8], ObjectFault); 5] = [
+        (&[0x22, 0, 0, 0, 0], ObjectFault::UnknownField),
+        (&[0xea, 0xe1, 0xf1], ObjectFault::UnknownField),
+        (&[0xea, 0xe1, 0xea], ObjectFault::Cut),
+        (&[0xea, 0x73, 0xff, 0xe1, 0x22], ObjectFault::BadLength),
+        (
+            &[0xea, 0xea, 0xea, 0xea, 0xea, 0xea, 0xea, 0xea, 0xea, 0xea],
+            ObjectFault::TooDeep,
+        ),
+    ];
+    for (bytes, fault) in rows {
+        match read_elements(rt.alloc(), bytes) {
+            Ok(_) => assert!(rt; false, "at {bytes:?}"),
+            Err(other) => assert_eq!(rt; other, fault, "at {bytes:?}"),
+        }
+    }
+}
