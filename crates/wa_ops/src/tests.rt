@@ -64,3 +64,36 @@ fn items_are_a_list(rt: HostRuntime) -> Result<(), Fail> {
     assert_eq!(rt; CallNo(3).0, 3);
     Ok(())
 }
+
+#[test]
+fn calls_by_name(rt: HostRuntime) {
+    let rows: [(&[u8], Option<CallNo>); 8] = [
+        (b"_g".as_slice(), Some(CallNo(0))),
+        (b"accept".as_slice(), Some(CallNo(1))),
+        (b"rollback".as_slice(), Some(CallNo(2))),
+        (b"".as_slice(), None),
+        (b"_".as_slice(), None),
+        (b"_g\0".as_slice(), None),
+        (b"Accept".as_slice(), None),
+        (b"rollbacks".as_slice(), None),
+    ];
+    for (name, row) in rows {
+        assert_eq!(rt; call_by_name(name), row);
+    }
+}
+
+#[test]
+fn types_of_calls(rt: HostRuntime) {
+    let (narrow, wide) = (ValueType::I32, ValueType::I64);
+    let guard = [narrow, narrow];
+    let ending = [narrow, narrow, wide];
+    let rows: [(u8, &[ValueType], ValueType); 3] = [
+        (0, guard.as_slice(), narrow),
+        (1, ending.as_slice(), wide),
+        (2, ending.as_slice(), wide),
+    ];
+    for (row, parameters, answer) in rows {
+        assert!(rt; call_parameters(CallNo(row)) == parameters);
+        assert_eq!(rt; call_answer(CallNo(row)), answer);
+    }
+}
