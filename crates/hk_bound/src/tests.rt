@@ -568,6 +568,78 @@ fn bounds_of_bodies(rt: HostRuntime) -> Result<(), Fail> {
     Ok(())
 }
 
+#[test]
+fn bounds_of_guards_in_all_places(rt: HostRuntime) -> Result<(), Fail> {
+    let rows: [Row<'_>; 8] = [
+        (
+            0,
+            b"",
+            0,
+            b"",
+            b"\x00\x41\x00\x04\x40\x03\x40\x41\x01\x41\x04\x10\x01\x1A\x0C\x00\x0B\x0B\x42\x00\x0B",
+            "33 None",
+        ),
+        (
+            0,
+            b"",
+            0,
+            b"",
+            b"\x00\x42\x00\x0F\x03\x40\x41\x01\x41\x04\x10\x01\x1A\x0C\x00\x0B\x42\x00\x0B",
+            "32 None",
+        ),
+        (
+            0,
+            b"",
+            0,
+            b"",
+            b"\x00\x02\x40\x03\x40\x41\x01\x41\x03\x10\x01\x1A\x20\x00\x0D\x01\x41\x02\x41\x01\x10\x01\x1A\x0C\x00\x0B\x0B\x42\x00\x0B",
+            "44 None",
+        ),
+        (
+            0,
+            b"",
+            0,
+            b"",
+            b"\x00\x02\x40\x03\x40\x20\x00\x0D\x01\x41\x01\x41\x03\x10\x01\x1A\x0C\x00\x0B\x0B\x42\x00\x0B",
+            "Rule(LoopWithoutGuard { func: 0, op: 1 })",
+        ),
+        (
+            0,
+            b"",
+            0,
+            b"",
+            b"\x00\x03\x40\x41\x01\x41\x03\x10\x01\x1A\x03\x40\x41\x02\x41\x09\x10\x01\x1A\x03\x40\x41\x03\x41\x02\x10\x01\x1A\x0B\x0C\x01\x0B\x0B\x42\x00\x0B",
+            "97 None",
+        ),
+        (
+            0,
+            b"",
+            0,
+            b"",
+            b"\x00\x03\x40\x41\x01\x41\x05\x10\x01\x1A\x0B\x03\x40\x41\x02\x41\x05\x10\x01\x1A\x0B\x03\x40\x41\x01\x41\x03\x10\x01\x1A\x0C\x00\x0B\x42\x00\x0B",
+            "76 None",
+        ),
+        (
+            0,
+            b"",
+            0,
+            b"",
+            b"\x00\x03\x40\x41\x01\x41\x06\x10\x01\x1A\x03\x40\x41\x02\x41\x03\x10\x01\x1A\x03\x40\x41\x01\x41\x06\x10\x01\x1A\x0B\x0B\x0C\x00\x0B\x42\x00\x0B",
+            "96 None",
+        ),
+        (
+            0,
+            b"",
+            0,
+            b"",
+            b"\x00\x03\x40\x41\x01\x41\x02\x10\x01\x1A\x20\x00\x04\x40\x03\x40\x41\x02\x41\x03\x10\x01\x1A\x0B\x05\x01\x01\x0B\x0B\x42\x00\x0B",
+            "43 None",
+        ),
+    ];
+    assert_eq!(rt; right_rows(rt.alloc(), &rows)?, 8);
+    Ok(())
+}
+
 /// Two functions, exported as `cbak` and `hook`, with these limits of their one loop, below 64 or 127 for the greatest.
 fn with_cbak(alloc: Global, hook: u8, cbak: u8) -> Result<Vec<u8>, NoMemory> {
     let mut bodies = Vec::from_slice(alloc, b"\x02\x10\x00\x03\x40\x41\x01\x41")?;
