@@ -1,6 +1,5 @@
 pub mod Typing
 pub mod Entries
-pub mod Guarding
 pub mod Bodies
 pub mod Ready
 pub mod Making

@@ -4,11 +4,12 @@ use Rattle.std.specs.Prelude.{slice_get, map}
 use Rattle.std.specs.Option.{option_map_or}
 use Rattle.hk_bound.specs.Bounds.{export_bound}
 use Rattle.hk_bound.specs.Checks.{Held, IsHeld, most}
+use Rattle.hk_bound.specs.Laws.{IsEntryType}
 use Rattle.hk_bound.specs.declared.fault.Export.{Export}
+use Rattle.hk_bound.proofs.Guarding.{ruled_guarded}
 use Rattle.hk_rules.specs.Guards.{entry_of}
 use Rattle.wa_exec.proofs.Bodies.{HasBody, IsExported, export_body, exported, bound_small}
-use Rattle.wa_exec.proofs.Entries.{IsEntryType, entry_type, entry_typed, calls_are, are_rows}
-use Rattle.wa_exec.proofs.Guarding.{guarded_code}
+use Rattle.wa_exec.proofs.Entries.{entry_typed, calls_are, are_rows}
 use Rattle.wa_exec.proofs.Typing.{locals_typed, zero_words, zeros_fit, globals_typed, global_words, globals_fit}
 use Rattle.wa_exec.specs.Made.{Made, IsMade}
 use Rattle.wa_exec.specs.Runs.{named, zero_of, locals_at, globals_at, memory_at, world_at, start_at, IsRun, RunsWithin}
@@ -38,7 +39,7 @@ zeros_typed : (m : Module) (func : ℕ) (code : Code) → IsRuled m → slice_ge
 zeros_typed m func code kept at =
     ap (λ o. types_of (map zero_of (locals_of o))) at ∙ locals_typed code.locals (no_floats m.codes func code at (kept.1.1.0 func 0)) ∙ ap locals_of (sym at)
 
-pub first_typed : (m : Module) (func argument : ℕ) (code : Code) → IsRuled m → slice_get m.codes func ≡ Some code → IsEntryType (function_type m func)
+pub first_typed : (m : Module) (func argument : ℕ) (code : Code) → IsRuled m → slice_get m.codes func ≡ Some code → IsEntryType m func
     → types_of (locals_at m func argument) ≡ (context_of m func).locals
 first_typed m func argument code kept at t =
     ap (λ ks. I32 ∷ ks) (zeros_typed m func code kept at) ∙ ap (λ ps. ps ++ locals_of (slice_get m.codes func)) (sym t.parameters)
@@ -54,10 +55,10 @@ pub within : {S : Type 0} (held : Held) (which : Export) (meaning : HostMeaning 
 within held which meaning argument before func n law h entry b =
     let m : Module = held.wasm in
     let kept : IsRuled m = h.holds.hook.ruled in
-    let t : IsEntryType (function_type m func) = entry_type (function_type m func) (entry_typed m which func kept entry) in
+    let t : IsEntryType m func = entry_typed m which func kept entry in
     law (world_at meaning m func) b.tree (locals_at m func argument) (globals_at m.globals) (memory_at m) before
     (first_typed m func argument b.code kept b.at t) (globals_kept m kept) t.result (h.holds.hook.typed func b.tree b.body)
-    (guarded_code (calls_of m.imports) m.codes func b.code b.tree b.at b.reads kept.1.1.1.1.1.1.1.1.1.1.1.1.1.1.1.1.1.1.1.0)
+    (ruled_guarded m func b.tree kept b.body)
 
 pub runs_within : (S : Type 0) → WithinBound S → (held : Held) → IsHeld held → (which : Export) → RunsWithin S held.wasm (named which)
 runs_within S law held h which meaning argument before n e =
@@ -83,7 +84,7 @@ can_run held which argument made h i b =
     let m : Module = held.wasm in
     let func : ℕ = made.function in
     let kept : IsRuled m = h.holds.hook.ruled in
-    let t : IsEntryType (function_type m func) = entry_type (function_type m func) (entry_typed m which func kept i.entry) in
+    let t : IsEntryType m func = entry_typed m which func kept i.entry in
     let small : i.bound ≤ most = bound_small which held i.bound h i.bounded in
     record {
       reads = b.reads;
@@ -100,7 +101,7 @@ can_run held which argument made h i b =
       globals_are = i.globals ∙ global_words m.globals;
       globals_fit = globals_fit m.globals (λ j. kept.1.1.1.1.1.1.1.1.1.0 j 0) i.globals_fit;
       typed = h.holds.hook.typed func b.tree b.body;
-      guarded = guarded_code (calls_of m.imports) m.codes func b.code b.tree b.at b.reads kept.1.1.1.1.1.1.1.1.1.1.1.1.1.1.1.1.1.1.1.0;
+      guarded = ruled_guarded m func b.tree kept b.body;
       countable = omega (arith, small, b.bounded);
       words_room = omega (arith, i.words_room, b.bounded);
       labels_room = omega (arith, i.labels_room, b.bounded);
