@@ -16,7 +16,7 @@ use Rattle.wa_exec.specs.Runs.{named, zero_of, locals_at, globals_at, memory_at,
 use Rattle.wa_machine.specs.Law.{types_of, kinds_of, EndsWithin, WithinBound}
 use Rattle.wa_machine.specs.Machine.{HostMeaning, start, Ends}
 use Rattle.wa_ops.specs.Bound.{bound}
-use Rattle.wa_ops.specs.Contexts.{calls_of, context_of, function_type, locals_of}
+use Rattle.wa_ops.specs.Contexts.{calls_of, context_of, locals_of}
 use Rattle.wa_ops.specs.HookRules.{IsRuled, has_float_locals, passes}
 use Rattle.wa_ops.specs.Sequences.{Sequence}
 use Rattle.wa_ops.specs.declared.modules.Code.{Code}
