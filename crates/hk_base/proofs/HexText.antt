@@ -67,18 +67,18 @@ pair_none (Some high) bytes = refl
 pair_none None bytes = refl
 
 -- a text with a last digit that stands alone has no bytes
-odd_has_none : (text : List ℕ) → length text % 2 ≡ 1 → hex_bytes text ≡ None
-odd_has_none [] odd = absurd (omega arith)
-odd_has_none (high ∷ []) odd = refl
-odd_has_none (high ∷ low ∷ text) odd =
-    let rest : hex_bytes text ≡ None = odd_has_none text (omega arith) in
+pub odd_none : (text : List ℕ) → length text % 2 ≡ 1 → hex_bytes text ≡ None
+odd_none [] odd = absurd (omega arith)
+odd_none (high ∷ []) odd = refl
+odd_none (high ∷ low ∷ text) odd =
+    let rest : hex_bytes text ≡ None = odd_none text (omega arith) in
     rw rest (all_of-none (pair_value (digit_value high) (digit_value low)))
 
 -- what the crate answers has the bytes of the text
 pub decode_of-is : (text : List ℕ) → value_of (decode_of text) ≡ hex_bytes text
 decode_of-is text =
     elim (cases_eq (length text % 2) 1) [
-      | inl odd ↦ rw odd (sym (odd_has_none text odd))
+      | inl odd ↦ rw odd (sym (odd_none text odd))
       | inr even ↦ ap value_of (decode_of-even text (omega arith)) ∙ decode_pairs-is text 0
     ]
 
@@ -130,5 +130,5 @@ bad_has_none (high ∷ low ∷ text) (suc (suc k)) x within is bad =
 
 -- a text that is odd or has a character that is no digit has no bytes
 pub shown_none : (text : List ℕ) → (length text % 2 ≡ 1) ⊎ Any IsNoDigit text → hex_bytes text ≡ None
-shown_none text (inl odd) = odd_has_none text odd
+shown_none text (inl odd) = odd_none text odd
 shown_none text (inr (k, x, within, is, bad)) = bad_has_none text k x within is bad

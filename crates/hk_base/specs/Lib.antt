@@ -3,3 +3,4 @@ pub mod Hexadecimal
 pub mod Outside
 pub mod Memory
 pub mod Standard
+pub mod Rows

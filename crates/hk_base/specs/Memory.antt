@@ -1,5 +1,5 @@
 -- What a contract sees of the sources and sinks in memory.
-use Rattle.std.specs.Prelude.{ℕ, ◌+◌, ◌-◌, ◌^◌, List, min}
+use Rattle.std.specs.Prelude.{ℕ, List}
 
 -- a source that never fails: the bytes that are left, and the most that one call gives
 pub record HonestReads : Type 0 where
@@ -20,7 +20,3 @@ pub record MemoryWrites : Type 0 where
   pub failing : List ℕ
   pub calls : ℕ
   pub faults : ℕ
-
--- a count and one more; it stops at the last number of 64 bits
-abbrev pub next_count : ℕ → ℕ
-next_count count = min (count + 1) (2 ^ 64 - 1)

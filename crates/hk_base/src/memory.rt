@@ -1,7 +1,7 @@
 //! Sources and sinks in memory.
 ghost use Rattle.std.specs.Prelude.{◌≡◌, ◌<◌, ◌≤◌, ◌++◌, ◌↔◌, [], length, min, take, drop, is_err, if◌then◌else◌, Contains, Some, Ok, IfErr, IfOk, IsErr, IsErrOf, IsTrue, OnErr, OnOk};
-ghost use Rattle.hk_base.specs.Memory.{next_count};
-ghost use Rattle.hk_base.specs.Outside.{Rose};
+ghost use Rattle.hk_base.specs.Outside.{last_count, next_count, told_count};
+ghost use Rattle.std.proofs.Math.Nat.{min-le_right};
 
 use crate::{Failed, Sink, SinkStop, Source};
 use std::alloc::Global;
@@ -60,6 +60,8 @@ impl Source for HonestSource {
     ghost left = { λ source. Some source.left };
 
     ghost faults = { λ _. 0 };
+
+    ghost at_most_last = { λ _. min-le_right 0 last_count };
 
     fn read(&mut self, into: &mut [u8]) -> Result<usize, Failed>
         requires room { 0 < length into.old }
@@ -153,7 +155,9 @@ impl MemSource {
 impl Source for MemSource {
     ghost left = { λ source. Some source.left };
 
-    ghost faults = { λ source. source.faults };
+    ghost faults = { λ source. told_count source.faults };
+
+    ghost at_most_last = { λ source. min-le_right source.faults last_count };
 
     fn read(&mut self, into: &mut [u8]) -> Result<usize, Failed>
         requires room { 0 < length into.old }
@@ -213,6 +217,8 @@ impl Sink for HonestSink {
 
     ghost faults = { λ _. 0 };
 
+    ghost at_most_last = { λ _. min-le_right 0 last_count };
+
     fn write(&mut self, piece: &[u8]) -> Result<usize, SinkStop>
         requires some { 0 < length piece.now }
         ensures count { IfOk result (λ count. count ≡ length piece.now) }
@@ -271,7 +277,9 @@ impl MemSink {
 impl Sink for MemSink {
     ghost written = { λ sink. Some sink.written };
 
-    ghost faults = { λ sink. sink.faults };
+    ghost faults = { λ sink. told_count sink.faults };
+
+    ghost at_most_last = { λ sink. min-le_right sink.faults last_count };
 
     fn write(&mut self, piece: &[u8]) -> Result<usize, SinkStop>
         requires some { 0 < length piece.now }

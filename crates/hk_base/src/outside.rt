@@ -2,7 +2,7 @@
 ghost use Rattle.std.specs.Prelude.{◌≡◌, ◌<◌, ◌≤◌, List, ℕ, length, take, IfOk, IsErrOf, OnErr};
 ghost use Rattle.std.specs.Io.KnownBytes.{Appends, Consumes, IsAtEnd, Keeps};
 ghost use Rattle.std.specs.declared.option.Option.{Option};
-ghost use Rattle.hk_base.specs.Outside.{Rose};
+ghost use Rattle.hk_base.specs.Outside.{Rose, last_count};
 ghost use Rattle.hk_base.specs.declared.outside.SinkStop.TheVariants.{NoMemory};
 
 use std::alloc::AllocError;
@@ -28,8 +28,8 @@ impl From<AllocError> for SinkStop {
 
 /// Where input comes from.
 ///
-/// Its meanings are the bytes that are left, where it tells them, and a count of its faults, which never falls and stops at
-/// 18,446,744,073,709,551,615.
+/// Its meanings are the bytes that are left, where it tells them, and a count of its faults, which never falls and is at most
+/// 18,446,744,073,709,551,615, where it stops.
 pub trait Source {
     /// The bytes not yet read, where the source tells them.
     ghost left: { Self → Option (List ℕ) };
@@ -46,12 +46,15 @@ pub trait Source {
         ensures kept { OnErr result (Keeps (left self.old) (left self.new)) }
         ensures never_falls { faults self.old ≤ faults self.new }
         ensures failed { OnErr result (Rose (faults self.old) (faults self.new)) };
+
+    /// No count of faults passes the last value, at which one may stand.
+    ghost at_most_last: { (source : Self) → faults source ≤ last_count };
 }
 
 /// Where output goes to.
 ///
-/// Its meanings are the bytes that were written, where it tells them, and a count of its faults, which never falls and stops at
-/// 18,446,744,073,709,551,615.
+/// Its meanings are the bytes that were written, where it tells them, and a count of its faults, which never falls and is at
+/// most 18,446,744,073,709,551,615, where it stops.
 pub trait Sink {
     /// The bytes written so far, where the sink tells them.
     ghost written: { Self → Option (List ℕ) };
@@ -67,4 +70,7 @@ pub trait Sink {
         ensures kept { OnErr result (Keeps (written self.old) (written self.new)) }
         ensures never_falls { faults self.old ≤ faults self.new }
         ensures failed { IsErrOf result SinkStop.Failed → Rose (faults self.old) (faults self.new) };
+
+    /// No count of faults passes the last value, at which one may stand.
+    ghost at_most_last: { (sink : Self) → faults sink ≤ last_count };
 }

@@ -1,5 +1,7 @@
 //! Std's readers and writers as sources and sinks.
 ghost use Rattle.std.specs.Prelude.{◌≡◌};
+ghost use Rattle.std.proofs.Math.Nat.{min-le_right};
+ghost use Rattle.hk_base.specs.Outside.{last_count};
 ghost use Rattle.hk_base.specs.Standard.{reader_of, read_faults, writer_of, write_faults};
 
 use crate::{Failed, Sink, SinkStop, Source};
@@ -25,6 +27,8 @@ impl<R: Read> Source for StdSource<R> {
     ghost left = { λ source. R.remaining (reader_of source) };
 
     ghost faults = { read_faults };
+
+    ghost at_most_last = { λ source. min-le_right source.faults last_count };
 
     fn read(&mut self, into: &mut [u8]) -> Result<usize, Failed> {
         match self.reader.read(into) {
@@ -57,6 +61,8 @@ impl<W: Write> Sink for StdSink<W> {
     ghost written = { λ sink. W.contents (writer_of sink) };
 
     ghost faults = { write_faults };
+
+    ghost at_most_last = { λ sink. min-le_right sink.faults last_count };
 
     fn write(&mut self, piece: &[u8]) -> Result<usize, SinkStop> {
         match self.writer.write(piece) {

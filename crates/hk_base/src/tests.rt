@@ -10,6 +10,8 @@ use crate::{
 };
 use std::alloc::{AllocError, Global};
 use std::cmp::Ordering;
+use std::io;
+use std::io::{ErrorKind, Write};
 use std::test::Fail;
 
 const A: AccountId = AccountId([0x11; 20]);
@@ -194,4 +196,32 @@ fn sinks_keep_what_is_written(rt: HostRuntime) -> Result<(), Fail> {
     }
     assert_eq!(rt; &buffer, b"qrstqr");
     Ok(())
+}
+
+// A writer whose calls fail in this way.
+#[derive(Drop)]
+struct Broken {
+    kind: ErrorKind,
+}
+
+impl Write for Broken {
+    fn write(&mut self, _: &[u8]) -> io::Result<usize> {
+        Err(self.kind.into())
+    }
+
+    fn flush(&mut self) -> io::Result<()> {
+        Ok(())
+    }
+}
+
+#[test]
+fn a_writer_that_fails_is_a_fault_and_no_want_of_memory(rt: HostRuntime) {
+    for (kind, stop) in [
+        (ErrorKind::Other, SinkStop::Failed),
+        (ErrorKind::BrokenPipe, SinkStop::Failed),
+        (ErrorKind::OutOfMemory, SinkStop::NoMemory),
+    ] {
+        let mut sink = StdSink::new(Broken { kind });
+        assert_eq!(rt; write_to(&mut sink, b"abcd"), Err(stop));
+    }
 }
