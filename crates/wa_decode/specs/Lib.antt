@@ -6,3 +6,4 @@ pub mod Modules
 pub mod Ranges
 pub mod Reading
 pub mod Views
+pub mod Versions

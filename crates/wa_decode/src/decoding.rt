@@ -1,6 +1,6 @@
 ghost use Rattle.std.specs.Prelude.{◌≡◌, IfOk, IsErrOf};
 ghost use Rattle.wa_decode.specs.Grammar.{NumberLengths};
-ghost use Rattle.wa_decode.specs.ModuleReading.{behind, module_at, parts_at};
+ghost use Rattle.wa_decode.specs.ModuleReading.{ModuleReads, behind, module_at, parts_at};
 ghost use Rattle.wa_decode.specs.Modules.{OneModule, Spells, header};
 ghost use Rattle.wa_decode.specs.Reading.{Gives};
 ghost use Rattle.wa_decode.specs.Views.{views};
@@ -89,6 +89,11 @@ fn parts(alloc: Global, sections: &[RawSection<'_>]) -> Result<Module, DecodeFau
 /// The law that no bytes spell two modules.
 pub fn one_module()
     ensures law { OneModule }
+{}
+
+/// The law that reading as a function finds a module exactly where the bytes spell it.
+pub fn module_reads()
+    ensures law { ModuleReads }
 {}
 
 /// The law that an N-bit number takes at most ceil(N / 7) bytes.

@@ -3,6 +3,7 @@
 
 mod codes;
 mod decoding;
+mod extensions;
 mod fault;
 mod instructions;
 mod numbers;
@@ -11,7 +12,8 @@ mod sections;
 mod types;
 mod vectors;
 
-pub use decoding::{decode, number_lengths, one_module};
+pub use decoding::{decode, module_reads, number_lengths, one_module};
+pub use extensions::has_extensions;
 pub use fault::DecodeFault;
 
 #[cfg(test)]

@@ -4,3 +4,4 @@ pub mod Sane
 pub mod Steps
 pub mod Plain
 pub mod Runs
+pub mod Endings

@@ -39,7 +39,7 @@ one_changed given operands Q h = at (pop I32 (closed operands)) h
 -- an instruction's region goes on well with each list of operands that its rest is typed for
 pub record Going {S : Type 0} (world : World S) (all : List LoopCost) (m : ℕ) (region : Region) (around : List Region) (guards : ℕ → ℕ) (Q : Stack → Type 0) : Type 0 where
   pub standing : Standing world all region around
-  pub enough : left all guards + (last_pass all + (own region.rest + weight around)) < m
+  pub enough : left all guards + (last_pass all + (own 1 region.rest + weight around)) < m
   pub place : ℕ
   pub typed : (stack : Stack) → Q stack → Leaves region.result (types world.context (labels_of (region ∷ around)) region.rest place stack)
 
@@ -48,7 +48,7 @@ pub goes : {S : Type 0} (world : World S) (all : List LoopCost) (m : ℕ) (regio
     (operands : List Value) (c : Configuration S) → c.guards ≡ guards → Vars world c → Q (closed operands) → GoodStep world all m (onward region around operands c)
 goes world all m region around guards Q g operands c e v q =
     onward_good world all m region around operands c g.place g.standing v
-    (subst (λ found. left all found + (last_pass all + (own region.rest + weight around)) < m) (sym e) g.enough) (g.typed (closed operands) q)
+    (subst (λ found. left all found + (last_pass all + (own 1 region.rest + weight around)) < m) (sym e) g.enough) (g.typed (closed operands) q)
 
 pub some_left : {S : Type 0} (world : World S) (all : List LoopCost) (m : ℕ) (region : Region) (around : List Region) (guards : ℕ → ℕ) (Q : Stack → Type 0) → Going world all m region around guards Q → 0 < m
 some_left world all m region around guards Q g = omega (arith, g.enough)
@@ -58,7 +58,7 @@ pub branches : {S : Type 0} (world : World S) (all : List LoopCost) (m : ℕ) (r
     GoodStep world all m (branch label (region ∷ around) operands c)
 branches world all m region around guards Q g label operands c e v t =
     branch_good world all m label region around operands c g.standing.kind g.standing.outer t v
-    (omega (arith, subst (λ found. left all found + (last_pass all + (own region.rest + weight around)) < m) (sym e) g.enough))
+    (omega (arith, subst (λ found. left all found + (last_pass all + (own 1 region.rest + weight around)) < m) (sym e) g.enough))
 
 -- the type that an operation gives is that of its value
 pub given_is : (Q : Stack → Type 0) (b : Bool) (n : ℕ) (operands : List Value) → Q (push (if b then I64 else I32) (closed operands)) → Q (closed (value_of (if b then I64 else I32) n ∷ operands))
@@ -81,7 +81,7 @@ pass_good world all m region around guards Q g id limit operands c e v q = at (n
   where
     at : (b : Bool) → GoodStep world all m (if b then onward region around (word32 1 ∷ operands) (record c { guards = counted id c.guards }) else ended (GuardViolated id limit) (record c { guards = counted id c.guards }))
     at true = onward_good world all m region around (word32 1 ∷ operands) (record c { guards = counted id c.guards }) g.place g.standing (record { locals = v.locals; globals = v.globals; returns = v.returns })
-        (omega (arith, left_less all id c.guards, subst (λ found. left all found + (last_pass all + (own region.rest + weight around)) < m) (sym e) g.enough)) (g.typed (closed (word32 1 ∷ operands)) q)
+        (omega (arith, left_less all id c.guards, subst (λ found. left all found + (last_pass all + (own 1 region.rest + weight around)) < m) (sym e) g.enough)) (g.typed (closed (word32 1 ∷ operands)) q)
     at false = some_left world all m region around guards Q g
 
 pub call_good : {S : Type 0} (world : World S) (all : List LoopCost) (m : ℕ) (region : Region) (around : List Region) (guards : ℕ → ℕ) (Q : Stack → Type 0) → Going world all m region around guards Q →
@@ -299,5 +299,5 @@ plain_good world all m (op.I64Const n) region around operands c Q g v t = goes w
 plain_good world all m (op.Number opcode) region around operands c Q g v t =
     on_changed (GoodStep world all m) (number_takes opcode) (number_gives opcode) operands (λ taken left. finish (numeric opcode taken) (number_gives opcode) region around left c) Q
     (on_if (is_number opcode) (changed (number_takes opcode) (number_gives opcode) (closed operands)) Q t)
-    (λ taken left k q. finish_good world all m region around c.guards Q g (numeric opcode taken) (among 0x79 0x8A opcode || opcode == 0xAC || opcode == 0xAD) left c refl v q)
+    (λ taken left k q. finish_good world all m region around c.guards Q g (numeric opcode taken) (among 0x79 0x8A opcode || opcode == 0xAC || opcode == 0xAD || among 0xC2 0xC4 opcode) left c refl v q)
 plain_good world all m instruction region around operands c Q g v t = absurd t

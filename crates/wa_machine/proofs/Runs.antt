@@ -8,7 +8,7 @@ use Rattle.wa_ops.specs.declared.op.Op.{Op}
 use Rattle.wa_ops.specs.declared.op.Op.TheVariants as op
 use Rattle.wa_ops.specs.declared.op.ValueType.{ValueType}
 use Rattle.wa_ops.specs.declared.op.ValueType.TheVariants.{I32}
-use Rattle.wa_ops.specs.Bound.{LoopCost, own, loops, loop_cost, last_pass, bound}
+use Rattle.wa_ops.specs.Bound.{LoopCost, own, loops, loop_cost, last_pass, bound_at}
 use Rattle.wa_ops.specs.Callees.{takes, gives}
 use Rattle.wa_ops.specs.Sequences.{Sequence, done, plain, block, loop, if_then, if_else, size}
 use Rattle.wa_ops.specs.Typing.{Context, Stack, Typing, leaves, fails, fresh, push_result, pop, pop_result, changed, and_then, effect, go_on, is_empty, after_region, no_result, types, Leaves}
@@ -48,7 +48,7 @@ pub enter_good : {S : Type 0} (world : World S) (all : List LoopCost) (m : ℕ) 
     Standing world all region around → Vars world c → Fine world.context all inside →
     Leaves result (types world.context (result ∷ labels_of (region ∷ around)) inside in_place fresh) →
     Leaves region.result (types world.context (labels_of (region ∷ around)) region.rest place (push_result result (closed operands))) →
-    left all c.guards + (last_pass all + (own inside + (own region.rest + weight around))) < m →
+    left all c.guards + (last_pass all + (own 1 inside + (own 1 region.rest + weight around))) < m →
     GoodStep world all m (enter inner result inside region around operands c)
 enter_good world all m result inside region around operands c in_place place s v f t u b = (
   record {
@@ -60,14 +60,14 @@ enter_good world all m result inside region around operands c in_place place s v
     globals = v.globals;
     returns = v.returns;
   },
-  (left all c.guards + (last_pass all + (own inside + (own region.rest + weight around))), inl (omega arith), b),
+  (left all c.guards + (last_pass all + (own 1 inside + (own 1 region.rest + weight around))), inl (omega arith), b),
 )
 
 pub loop_good : {S : Type 0} (world : World S) (all : List LoopCost) (m : ℕ) (result : Option ValueType) (inside : Sequence) (region : Region) (around : List Region) (operands : List Value) (c : Configuration S) (place : ℕ) →
     Standing world all region around → Vars world c →
     SoundLoop world.context all (None ∷ labels_of (region ∷ around)) result inside →
     Leaves region.result (types world.context (labels_of (region ∷ around)) region.rest place (push_result result (closed operands))) →
-    left all c.guards + (last_pass all + (own region.rest + weight around)) < m →
+    left all c.guards + (last_pass all + (own 1 region.rest + weight around)) < m →
     GoodStep world all m (enter (turns inside) result inside region around operands c)
 loop_good world all m result inside region around operands c place s v l u b =
     begin_good world all m result inside (record region { operands = operands } ∷ around) c l
@@ -75,7 +75,7 @@ loop_good world all m result inside region around operands c place s v l u b =
 
 pub node_good : {S : Type 0} (world : World S) (all : List LoopCost) (m : ℕ) (code : Sequence) (region : Region) (around : List Region) (c : Configuration S) (place : ℕ) →
     Fine world.context all code → SoundKind world.context all (labels_of (region ∷ around)) region.result region.kind → Around region.kind around (AllSound world.context all around (slots_of region.result)) → Vars world c →
-    left all c.guards + (last_pass all + (own code + weight around)) ≤ m →
+    left all c.guards + (last_pass all + (own 1 code + weight around)) ≤ m →
     Leaves region.result (types world.context (labels_of (region ∷ around)) code place (closed region.operands)) → GoodStep world all m (node world code region around c)
 node_good world all m done region around c place f k a v b t =
     on_whole (GoodStep world all m) region.result region.operands (λ out. close region.kind out around c) t
@@ -89,14 +89,14 @@ node_good world all m (block result inside rest) region around c place f k a v b
     let parts : Leaves result (types world.context (result ∷ labels_of (region ∷ around)) inside (place + 1) fresh) ×
     Leaves region.result (types world.context (labels_of (region ∷ around)) rest (place + 2 + size inside) (push_result result (closed region.operands))) = on_region result region.result _ _ _ t in
     enter_good world all m result inside (record region { rest = rest }) around region.operands c (place + 1) (place + 2 + size inside)
-    (record { fine = record { guarded = f.guarded.1; within = within_back all (loops inside) (loops rest) f.within }; kind = k; outer = a }) v
-    (record { guarded = f.guarded.0; within = within_front all (loops inside) (loops rest) f.within }) parts.0 parts.1 (omega arith)
+    (record { fine = record { guarded = f.guarded.1; within = within_back all (loops 1 inside) (loops 1 rest) f.within }; kind = k; outer = a }) v
+    (record { guarded = f.guarded.0; within = within_front all (loops 1 inside) (loops 1 rest) f.within }) parts.0 parts.1 (omega arith)
 node_good world all m (loop result inside rest) region around c place f k a v b t =
     let parts : Leaves result (types world.context (None ∷ labels_of (region ∷ around)) inside (place + 1) fresh) ×
     Leaves region.result (types world.context (labels_of (region ∷ around)) rest (place + 2 + size inside) (push_result result (closed region.operands))) = on_region result region.result _ _ _ t in
     loop_good world all m result inside (record region { rest = rest }) around region.operands c (place + 2 + size inside)
-    (record { fine = record { guarded = f.guarded.2; within = within_back all (loops inside) (loops rest) f.within.1 }; kind = k; outer = a }) v
-    (record { guarded = f.guarded.0; place = place + 1; typed = parts.0; fine = record { guarded = f.guarded.1; within = within_front all (loops inside) (loops rest) f.within.1 }; among = f.within.0 })
+    (record { fine = record { guarded = f.guarded.2; within = within_back all (loops 1 inside) (loops 1 rest) f.within.1 }; kind = k; outer = a }) v
+    (record { guarded = f.guarded.0; place = place + 1; typed = parts.0; fine = record { guarded = f.guarded.1; within = within_front all (loops 1 inside) (loops 1 rest) f.within.1 }; among = f.within.0 })
     parts.1 (omega arith)
 node_good world all m (if_then result inside rest) region around c place f k a v b t =
     on_word (GoodStep world all m) region.operands
@@ -112,14 +112,14 @@ node_good world all m (if_then result inside rest) region around c place f k a v
         GoodStep world all m (if zero_condition then onward (record region { rest = rest }) around left_over c else enter inner result inside (record region { rest = rest }) around left_over c)
     choose true left_over p =
         onward_good world all m (record region { rest = rest }) around left_over c (place + 2 + size inside)
-        (record { fine = record { guarded = f.guarded.1; within = within_back all (loops inside) (loops rest) f.within }; kind = k; outer = a }) v (omega arith)
+        (record { fine = record { guarded = f.guarded.1; within = within_back all (loops 1 inside) (loops 1 rest) f.within }; kind = k; outer = a }) v (omega arith)
         (none_left result region.result (place + 1 + size inside) (types world.context (labels_of (region ∷ around)) rest (place + 2 + size inside) (closed left_over)) p.1).1
     choose false left_over p =
         let n : (result ≡ None) × Leaves region.result (types world.context (labels_of (region ∷ around)) rest (place + 2 + size inside) (closed left_over)) =
         none_left result region.result (place + 1 + size inside) (types world.context (labels_of (region ∷ around)) rest (place + 2 + size inside) (closed left_over)) p.1 in
         enter_good world all m result inside (record region { rest = rest }) around left_over c (place + 1) (place + 2 + size inside)
-        (record { fine = record { guarded = f.guarded.1; within = within_back all (loops inside) (loops rest) f.within }; kind = k; outer = a }) v
-        (record { guarded = f.guarded.0; within = within_front all (loops inside) (loops rest) f.within }) p.0
+        (record { fine = record { guarded = f.guarded.1; within = within_back all (loops 1 inside) (loops 1 rest) f.within }; kind = k; outer = a }) v
+        (record { guarded = f.guarded.0; within = within_front all (loops 1 inside) (loops 1 rest) f.within }) p.0
         (subst (λ r. Leaves region.result (types world.context (labels_of (region ∷ around)) rest (place + 2 + size inside) (push_result r (closed left_over)))) (sym n.0) n.1) (omega arith)
 node_good world all m (if_else result one other rest) region around c place f k a v b t =
     on_word (GoodStep world all m) region.operands
@@ -131,7 +131,7 @@ node_good world all m (if_else result one other rest) region around c place f k 
     (λ condition left h. choose (condition == 0) left (on_region result region.result _ _ _ h))
   where
     standing : Standing world all (record region { rest = rest }) around
-    standing = record { fine = record { guarded = f.guarded.2; within = within_back all (loops one ++ loops other) (loops rest) f.within }; kind = k; outer = a }
+    standing = record { fine = record { guarded = f.guarded.2; within = within_back all (loops 1 one ++ loops 1 other) (loops 1 rest) f.within }; kind = k; outer = a }
 
     choose : (zero_condition : Bool) (left_over : List Value) →
         Leaves result (types world.context (result ∷ labels_of (region ∷ around)) one (place + 1) fresh) ×
@@ -142,12 +142,12 @@ node_good world all m (if_else result one other rest) region around c place f k 
         let q : Leaves result (types world.context (result ∷ labels_of (region ∷ around)) other (place + 2 + size one) fresh) ×
         Leaves region.result (types world.context (labels_of (region ∷ around)) rest (place + 3 + size one + size other) (push_result result (closed left_over))) = on_region result region.result _ _ _ p.1 in
         enter_good world all m result other (record region { rest = rest }) around left_over c (place + 2 + size one) (place + 3 + size one + size other) standing v
-        (record { guarded = f.guarded.1; within = within_back all (loops one) (loops other) (within_front all (loops one ++ loops other) (loops rest) f.within) }) q.0 q.1 (omega arith)
+        (record { guarded = f.guarded.1; within = within_back all (loops 1 one) (loops 1 other) (within_front all (loops 1 one ++ loops 1 other) (loops 1 rest) f.within) }) q.0 q.1 (omega arith)
     choose false left_over p =
         let q : Leaves result (types world.context (result ∷ labels_of (region ∷ around)) other (place + 2 + size one) fresh) ×
         Leaves region.result (types world.context (labels_of (region ∷ around)) rest (place + 3 + size one + size other) (push_result result (closed left_over))) = on_region result region.result _ _ _ p.1 in
         enter_good world all m result one (record region { rest = rest }) around left_over c (place + 1) (place + 3 + size one + size other) standing v
-        (record { guarded = f.guarded.0; within = within_front all (loops one) (loops other) (within_front all (loops one ++ loops other) (loops rest) f.within) }) p.0 q.1 (omega arith)
+        (record { guarded = f.guarded.0; within = within_front all (loops 1 one) (loops 1 other) (within_front all (loops 1 one ++ loops 1 other) (loops 1 rest) f.within) }) p.0 q.1 (omega arith)
 
 -- one of a loop's first three instructions
 pub head_good : {S : Type 0} (world : World S) (all : List LoopCost) (m : ℕ) (kind : Kind) (result : Option ValueType) (rest : Sequence) (operands : List Value) (around : List Region) (c : Configuration S) (place j : ℕ) →
@@ -178,12 +178,12 @@ head_good world all m _ result _ _ around c place _ (at_third {id} {limit} {func
     choose true p =
         let passed : c.guards (cast_unsigned w32 id) < cast_unsigned w32 limit = grind (arith, nat_tests) in
         let l : SoundLoop world.context all (None ∷ labels_of around) result (plain (op.I32Const id) (plain (op.I32Const limit) (plain (op.Call function) rest))) = k in
-        let paid : left all (counted (cast_unsigned w32 id) c.guards) + own (plain (op.I32Const id) (plain (op.I32Const limit) (plain (op.Call function) rest))) ≤ left all c.guards =
-        left_pays all (loop_cost (plain (op.I32Const id) (plain (op.I32Const limit) (plain (op.Call function) rest)))) c.guards l.among passed in
+        let paid : left all (counted (cast_unsigned w32 id) c.guards) + own 1 (plain (op.I32Const id) (plain (op.I32Const limit) (plain (op.Call function) rest))) ≤ left all c.guards =
+        left_pays all (loop_cost 1 (plain (op.I32Const id) (plain (op.I32Const limit) (plain (op.Call function) rest)))) c.guards l.among passed in
         onward_good world all m (region_of (turns (plain (op.I32Const id) (plain (op.I32Const limit) (plain (op.Call function) rest)))) result (word32 (cast_unsigned w32 limit) ∷ word32 (cast_unsigned w32 id) ∷ []) rest) around (word32 1 ∷ [])
         (record c { guards = counted (cast_unsigned w32 id) c.guards }) (place + 1)
         (record { fine = fine_plain world.context all (op.Call function) rest f; kind = k; outer = a }) (record { locals = v.locals; globals = v.globals; returns = v.returns })
-        (omega (arith, paid, last_pass_is all (loop_cost (plain (op.I32Const id) (plain (op.I32Const limit) (plain (op.Call function) rest)))) l.among)) later
+        (omega (arith, paid, last_pass_is all (loop_cost 1 (plain (op.I32Const id) (plain (op.I32Const limit) (plain (op.Call function) rest)))) l.among)) later
     choose false p = omega arith
 
 pub innermost_good : {S : Type 0} (world : World S) (all : List LoopCost) (m : ℕ) (regions : List Region) (c : Configuration S) →
@@ -238,6 +238,6 @@ ends_by world all (suc m) c s n =
 
 pub within_bound : (S : Type 0) → WithinBound S
 within_bound S world code locals globals memory host l g r t f =
-    ends_by world (loops code) (bound code) (start world code locals globals memory host)
-    (record { regions = (record { place = 0; typed = t; fine = record { guarded = f; within = within_itself (loops code) }; kind = refl }, refl); locals = l; globals = g; returns = r })
-    (inl (omega (arith, left_first (loops code))))
+    ends_by world (loops 1 code) (bound_at 1 code) (start world code locals globals memory host)
+    (record { regions = (record { place = 0; typed = t; fine = record { guarded = f; within = within_itself (loops 1 code) }; kind = refl }, refl); locals = l; globals = g; returns = r })
+    (inl (omega (arith, left_first (loops 1 code))))

@@ -16,7 +16,7 @@ use Rattle.wa_machine.proofs.Budget.{left, Among, Within}
 -- loops are guarded, and are among those that the budget counts
 pub record Fine (context : Context) (all : List LoopCost) (code : Sequence) : Type 0 where
   pub guarded : IsGuarded context.calls code
-  pub within : Within all (loops code)
+  pub within : Within all (loops 1 code)
 
 -- what a branch to a region carries
 abbrev pub carried : Kind → Option ValueType → Option ValueType
@@ -38,7 +38,7 @@ pub record SoundLoop (context : Context) (all : List LoopCost) (labels : List (O
   pub place : ℕ
   pub typed : Leaves result (types context labels whole place fresh)
   pub fine : Fine context all whole
-  pub among : Among all (loop_cost whole)
+  pub among : Among all (loop_cost 1 whole)
 
 abbrev pub SoundKind : Context → List LoopCost → List (Option ValueType) → Option ValueType → Kind → Type 0
 SoundKind context all labels result body = result ≡ context.result
@@ -65,7 +65,7 @@ AllSound context all (region ∷ around) handed =
 
 abbrev pub weight : List Region → ℕ
 weight [] = 0
-weight (region ∷ around) = own region.rest + weight around
+weight (region ∷ around) = own 1 region.rest + weight around
 
 -- a loop before its guard has counted, and how many steps that takes
 pub data IsHead (calls : List Callee) : Kind → Sequence → List Value → ℕ → Type 0 where

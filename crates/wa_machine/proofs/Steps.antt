@@ -26,11 +26,11 @@ pub record Standing {S : Type 0} (world : World S) (all : List LoopCost) (region
 
 pub onward_good : {S : Type 0} (world : World S) (all : List LoopCost) (m : ℕ) (region : Region) (around : List Region) (operands : List Value) (c : Configuration S) (place : ℕ) →
     Standing world all region around → Vars world c →
-    left all c.guards + (last_pass all + (own region.rest + weight around)) < m →
+    left all c.guards + (last_pass all + (own 1 region.rest + weight around)) < m →
     Leaves region.result (types world.context (labels_of (region ∷ around)) region.rest place (closed operands)) → GoodStep world all m (onward region around operands c)
 onward_good world all m region around operands c place s v b t = (
   record { regions = (record { place = place; typed = t; fine = s.fine; kind = s.kind }, s.outer); locals = v.locals; globals = v.globals; returns = v.returns },
-  (left all c.guards + (last_pass all + (own region.rest + weight around)), inl (omega arith), b),
+  (left all c.guards + (last_pass all + (own 1 region.rest + weight around)), inl (omega arith), b),
 )
 
 pub handed_slots : (result : Option ValueType) (out operands : List Value) → OfResult result out → slots (out ++ operands) ≡ slots_of result ++ slots operands
@@ -93,7 +93,7 @@ pub begin_good : {S : Type 0} (world : World S) (all : List LoopCost) (m : ℕ) 
 begin_good world all m result whole around c l a v b =
     let h : HeadOf world.context.calls whole = head_of world.context.calls whole l.guarded in (
       record { regions = (record { place = l.place; typed = l.typed; fine = l.fine; kind = l }, a); locals = v.locals; globals = v.globals; returns = v.returns },
-      (left all c.guards + (weight around + 3), inr (3, h.head, omega arith), omega (arith, last_pass_is all (loop_cost whole) l.among)),
+      (left all c.guards + (weight around + 3), inr (3, h.head, omega arith), omega (arith, last_pass_is all (loop_cost 1 whole) l.among)),
     )
 
 pub arrive_good : {S : Type 0} (world : World S) (all : List LoopCost) (m : ℕ) (kind : Kind) (result : Option ValueType) (mine : List Value) (rest : Sequence) (around : List Region) (operands : List Value) (c : Configuration S) →

@@ -3,7 +3,7 @@ use Rattle.std.specs.Prelude.{ℕ, ◌≡◌, ◌≤◌, List, [], ◌∷◌, So
 use Rattle.hk_base.specs.declared.outcome.Outcome.{Outcome}
 use Rattle.wa_ops.specs.declared.op.ValueType.{ValueType}
 use Rattle.wa_ops.specs.declared.op.ValueType.TheVariants.{I64}
-use Rattle.wa_ops.specs.Bound.{bound, IsGuarded}
+use Rattle.wa_ops.specs.Bound.{bound_at, IsGuarded}
 use Rattle.wa_ops.specs.Sequences.{Sequence}
 use Rattle.wa_ops.specs.Typing.{GlobalType, IsTyped}
 use Rattle.wa_machine.specs.Machine.{Value, type_of, Configuration, World, start, Ends}
@@ -24,9 +24,9 @@ pub record EndsWithin {S : Type 0} (world : World S) (most : ℕ) (c : Configura
   pub within : steps ≤ most
   pub ends : Ends world steps c outcome last
 
--- for every host: each run of typed and guarded code ends within the bound
+-- for every host: each run of typed and guarded code ends within the bound of version 1, and so within that of version 0, which is no less
 abbrev pub WithinBound : Type 0 → Type 0
 WithinBound S = (world : World S) (code : Sequence) (locals globals : List Value) (memory : List ℕ) (host : S) →
     types_of locals ≡ world.context.locals → types_of globals ≡ kinds_of world.context.globals → world.context.result ≡ Some I64 →
     IsTyped world.context code → IsGuarded world.context.calls code →
-    EndsWithin world (bound code) (start world code locals globals memory host)
+    EndsWithin world (bound_at 1 code) (start world code locals globals memory host)

@@ -1,2 +1,4 @@
 pub mod Machine
 pub mod Law
+pub mod Starts
+pub mod Runs

@@ -15,7 +15,7 @@ use Rattle.wa_ops.specs.declared.op.ValueType.{ValueType}
 use Rattle.wa_ops.specs.declared.op.ValueType.TheVariants.{I32, I64}
 use Rattle.wa_ops.specs.Accesses.{load_type, load_width, is_signed_load, store_type, store_width, number_takes, number_gives}
 use Rattle.wa_ops.specs.Callees.{Callee, guard, accept, rollback, host_call, takes}
-use Rattle.wa_ops.specs.Opcodes.{among}
+use Rattle.wa_ops.specs.Opcodes.{among, is_unary32, is_unary64}
 use Rattle.wa_ops.specs.Sequences.{Sequence, done, plain, block, loop, if_then, if_else}
 use Rattle.wa_ops.specs.Typing.{Context, is_same_type}
 
@@ -151,8 +151,8 @@ abbrev pub numeric : ℕ → List Value → Result ℕ Trap
 numeric n operands =
     if among 0x6A 0x78 n then binary w32 (binary_at n) (second operands) (first operands) else
     if among 0x7C 0x8A n then binary w64 (binary_at n) (second operands) (first operands) else
-    if among 0x67 0x69 n then Ok (unary w32 (unary_at n) (first operands)) else
-    if among 0x79 0x7B n then Ok (unary w64 (unary_at n) (first operands)) else
+    if is_unary32 n then Ok (unary w32 (unary_at n) (first operands)) else
+    if is_unary64 n then Ok (unary w64 (unary_at n) (first operands)) else
     if among 0x46 0x4F n then Ok (comparison w32 (comparison_at n) (second operands) (first operands)) else
     if among 0x51 0x5A n then Ok (comparison w64 (comparison_at n) (second operands) (first operands)) else
     if n == 0x45 || n == 0x50 then Ok (zero_test (first operands)) else

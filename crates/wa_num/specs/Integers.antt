@@ -1,6 +1,6 @@
 -- The integer operations of WebAssembly Core 1.0, "Integer Operations", on numbers from 0 to 2 ^ N - 1.
 use Rattle.std.specs.Prelude.{ℕ, suc, ℤ, pos, negsuc, neg_ℤ, unsigned_abs, ◌+◌, ◌-◌, ◌*◌, ◌/◌, ◌%◌, ◌^◌, Bool, ◌==◌, ◌&&◌, not, nat_lt, nat_le, if◌then◌else◌, Result, Ok, Err, bit_and, bit_or, bit_xor}
-use Rattle.std.specs.Int.{Width, w32, w64, cast_signed, cast_unsigned, leading_zeros, trailing_zeros, from_bool}
+use Rattle.std.specs.Int.{Width, w8, w16, w32, w64, cast_signed, cast_unsigned, leading_zeros, trailing_zeros, from_bool}
 use Rattle.std.specs.Int.RustNames.{int_lt, int_le, count_ones}
 use mir.Val.{bits, hbits}
 use Rattle.hk_base.specs.declared.outcome.Trap.{Trap}
@@ -12,7 +12,7 @@ use Rattle.wa_num.specs.declared.operators.Comparison.TheVariants.{Eq, Ne, LtS, 
 use Rattle.wa_num.specs.declared.operators.Conversion.{Conversion}
 use Rattle.wa_num.specs.declared.operators.Conversion.TheVariants.{Wrap, ExtendS, ExtendU}
 use Rattle.wa_num.specs.declared.operators.Unary.{Unary}
-use Rattle.wa_num.specs.declared.operators.Unary.TheVariants.{Clz, Ctz, Popcnt}
+use Rattle.wa_num.specs.declared.operators.Unary.TheVariants.{Clz, Ctz, Popcnt, Extend8, Extend16, Extend32}
 
 -- the signed reading of i: i itself below half of 2 ^ N, and i - 2 ^ N from there on
 abbrev pub signed : Width → ℕ → ℤ
@@ -75,11 +75,15 @@ binary w ShrU a b = Ok (a / 2 ^ (b % bits w))
 binary w Rotl a b = Ok (turned_left w a (b % bits w))
 binary w Rotr a b = Ok (turned_right w a (b % bits w))
 
--- how many of the N binary digits are 0 above the highest 1, or below the lowest 1, all N of them for 0; and how many are 1
+-- How many of the N binary digits are 0 above the highest 1, or below the lowest 1, all N of them for 0; and how many are 1.
+-- The low 8, 16 or 32 bits, read as signed (the proposal "Sign-extension operators").
 abbrev pub unary : Width → Unary → ℕ → ℕ
 unary w Clz a = leading_zeros w a
 unary w Ctz a = trailing_zeros w a
 unary w Popcnt a = count_ones a
+unary w Extend8 a = unsigned w (signed w8 (a % 2 ^ 8))
+unary w Extend16 a = unsigned w (signed w16 (a % 2 ^ 16))
+unary w Extend32 a = unsigned w (signed w32 (a % 2 ^ 32))
 
 abbrev pub is_related : Width → Comparison → ℕ → ℕ → Bool
 is_related w Eq a b = a == b

@@ -7,7 +7,7 @@ use Rattle.wa_num.specs.declared.operators.Comparison.TheVariants.{Eq, Ne, LtS, 
 use Rattle.wa_num.specs.declared.operators.Conversion.{Conversion}
 use Rattle.wa_num.specs.declared.operators.Conversion.TheVariants.{Wrap, ExtendS, ExtendU}
 use Rattle.wa_num.specs.declared.operators.Unary.{Unary}
-use Rattle.wa_num.specs.declared.operators.Unary.TheVariants.{Clz, Ctz, Popcnt}
+use Rattle.wa_num.specs.declared.operators.Unary.TheVariants.{Clz, Ctz, Popcnt, Extend8, Extend16, Extend32}
 
 -- of 6A to 78 and of 7C to 8A
 abbrev pub binary_at : ℕ → Binary
@@ -28,11 +28,14 @@ binary_at n =
     if n == 0x77 || n == 0x89 then Rotl else
     Rotr
 
--- of 67 to 69 and of 79 to 7B
+-- of 67 to 69 and of 79 to 7B; of C0 to C4
 abbrev pub unary_at : ℕ → Unary
 unary_at n =
     if n == 0x67 || n == 0x79 then Clz else
     if n == 0x68 || n == 0x7A then Ctz else
+    if n == 0xC0 || n == 0xC2 then Extend8 else
+    if n == 0xC1 || n == 0xC3 then Extend16 else
+    if n == 0xC4 then Extend32 else
     Popcnt
 
 -- of 46 to 4F and of 51 to 5A

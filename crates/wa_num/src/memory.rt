@@ -36,6 +36,7 @@ impl Memory {
     }
 
     /// How many bytes there are.
+    #[inline(always)]
     pub fn len(&self) -> usize
         ensures length { result ≡ length self.now }
     {
@@ -43,6 +44,7 @@ impl Memory {
     }
 
     /// The number in the `width` bytes at `address + offset`, the lowest byte first; `None` where they pass the end.
+    #[inline(always)]
     pub fn load(&self, address: u32, offset: u32, width: u32) -> Option<u64>
         requires width { IsTrue (is_width width) }
         ensures number { result ≡ loaded self.now (address + offset) width }
@@ -59,6 +61,7 @@ impl Memory {
     /// Puts the low `width` bytes of `value` at `address + offset`, the lowest first.
     ///
     /// `false` where they pass the end; the memory is then as it was.
+    #[inline(always)]
     pub fn store(&mut self, address: u32, offset: u32, width: u32, value: u64) -> bool
         requires width { IsTrue (is_width width) }
         ensures fits { IsTrue result ↔ (address + offset + width ≤ length self.old) }
@@ -103,6 +106,7 @@ impl Memory {
 }
 
 /// The number that up to 8 bytes spell, the lowest first.
+#[inline(always)]
 fn number_of(bytes: &[u8]) -> u64
     requires width { length bytes.now ≤ 8 }
     ensures number { result ≡ little bytes.now }
@@ -112,6 +116,7 @@ fn number_of(bytes: &[u8]) -> u64
 }
 
 /// The bytes with zeros behind them.
+#[inline(always)]
 fn widened(bytes: &[u8]) -> [u8; 8]
     requires width { length bytes.now ≤ 8 }
     ensures bytes { result ≡ bytes.now ++ replicate (8 - length bytes.now) 0 }

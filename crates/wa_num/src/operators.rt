@@ -27,6 +27,9 @@ pub(crate) enum Unary {
     Clz,
     Ctz,
     Popcnt,
+    Extend8,
+    Extend16,
+    Extend32,
 }
 
 /// A comparison of two operands.
@@ -52,6 +55,7 @@ pub(crate) enum Conversion {
     ExtendU,
 }
 
+#[inline(always)]
 pub(crate) fn binary_of(opcode: u8) -> Binary
     ensures operator { result ≡ binary_at opcode }
 {
@@ -74,16 +78,21 @@ pub(crate) fn binary_of(opcode: u8) -> Binary
     }
 }
 
+#[inline(always)]
 pub(crate) fn unary_of(opcode: u8) -> Unary
     ensures operator { result ≡ unary_at opcode }
 {
     match opcode {
         0x67 | 0x79 => Unary::Clz,
         0x68 | 0x7A => Unary::Ctz,
+        0xC0 | 0xC2 => Unary::Extend8,
+        0xC1 | 0xC3 => Unary::Extend16,
+        0xC4 => Unary::Extend32,
         _ => Unary::Popcnt,
     }
 }
 
+#[inline(always)]
 pub(crate) fn comparison_of(opcode: u8) -> Comparison
     ensures operator { result ≡ comparison_at opcode }
 {
@@ -101,6 +110,7 @@ pub(crate) fn comparison_of(opcode: u8) -> Comparison
     }
 }
 
+#[inline(always)]
 pub(crate) fn conversion_of(opcode: u8) -> Conversion
     ensures operator { result ≡ conversion_at opcode }
 {

@@ -309,6 +309,12 @@ fn counts_and_widths_at_the_edges(rt: HostRuntime) {
         assert_eq!(rt; unary64(0x7A, a), trailing);
         assert_eq!(rt; unary64(0x7B, a), ones);
     }
+    assert_eq!(rt; unary32(0xC0, 0xFFFF_FF7F), 0x7F);
+    assert_eq!(rt; unary32(0xC0, 0x180), 0xFFFF_FF80);
+    assert_eq!(rt; unary32(0xC1, 0x1_8000), 0xFFFF_8000);
+    assert_eq!(rt; unary64(0xC2, 0x180), 0xFFFF_FFFF_FFFF_FF80);
+    assert_eq!(rt; unary64(0xC3, 0x1_7FFF), 0x7FFF);
+    assert_eq!(rt; unary64(0xC4, 0x1_8000_0000), 0xFFFF_FFFF_8000_0000);
     assert_eq!(rt; convert(0xA7, 0xFFFF_FFFF_8000_0001), 0x8000_0001);
     assert_eq!(rt; convert(0xAC, 0x8000_0000), 0xFFFF_FFFF_8000_0000);
     assert_eq!(rt; convert(0xAC, 0x7FFF_FFFF), 0x7FFF_FFFF);
@@ -376,9 +382,10 @@ impl Host for Rows {
     }
 }
 
-/// What any host answers in its row 64.
+/// What any host answers in its row 64, which takes four numbers of 32 bits.
+#[tactic(auto, unfolding(wa_ops::specs::Rows::row_parameters, wa_ops::specs::Rows::api_calls))]
 fn ask<H: Host>(host: &mut H, memory: &mut Memory) -> Result<i64, NoMemory> {
-    host.call(CallNo(64), &[], memory)
+    host.call(CallNo(64), &[1, 2, 3, 4], memory)
 }
 
 #[test]

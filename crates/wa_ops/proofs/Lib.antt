@@ -1,2 +1,6 @@
 pub mod Marking
 pub mod Parsing
+pub mod Tables
+pub mod FinerBound
+pub mod RulesByName
+pub mod RowLemmas

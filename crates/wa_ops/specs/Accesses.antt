@@ -2,7 +2,7 @@
 use Rattle.std.specs.Prelude.{ℕ, Bool, ◌==◌, ◌||◌, if◌then◌else◌, List, [], ◌∷◌}
 use Rattle.wa_ops.specs.declared.op.ValueType.{ValueType}
 use Rattle.wa_ops.specs.declared.op.ValueType.TheVariants.{I32, I64}
-use Rattle.wa_ops.specs.Opcodes.{among}
+use Rattle.wa_ops.specs.Opcodes.{among, is_unary32, is_unary64}
 
 -- i64.load, and the loads of 8, 16 and 32 bits into an i64; each other load gives an i32
 abbrev pub load_type : ℕ → ValueType
@@ -33,10 +33,10 @@ store_width n =
 -- the operands of a numeric instruction, the last pushed first
 abbrev pub number_takes : ℕ → List ValueType
 number_takes n =
-    if n == 0x45 || among 0x67 0x69 n || n == 0xAC || n == 0xAD then I32 ∷ [] else
-    if n == 0x50 || among 0x79 0x7B n || n == 0xA7 then I64 ∷ [] else
+    if n == 0x45 || is_unary32 n || n == 0xAC || n == 0xAD then I32 ∷ [] else
+    if n == 0x50 || is_unary64 n || n == 0xA7 then I64 ∷ [] else
     if among 0x46 0x4F n || among 0x6A 0x78 n then I32 ∷ I32 ∷ [] else
     I64 ∷ I64 ∷ []
 
 abbrev pub number_gives : ℕ → ValueType
-number_gives n = if among 0x79 0x8A n || n == 0xAC || n == 0xAD then I64 else I32
+number_gives n = if among 0x79 0x8A n || n == 0xAC || n == 0xAD || among 0xC2 0xC4 n then I64 else I32

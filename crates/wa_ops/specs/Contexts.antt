@@ -1,5 +1,6 @@
 -- What the code of a module's function may name (WebAssembly Core 1.0, "Contexts" of validation; the rows of calls are this project's own).
 use Rattle.std.specs.Prelude.{ℕ, ◌==◌, List, [], ◌∷◌, ◌++◌, Option, Some, None, Bool, true, false, if◌then◌else◌, map, replicate, slice_get}
+use Rattle.wa_ops.specs.declared.call_no.CallNo.{CallNo}
 use Rattle.wa_ops.specs.declared.modules.Code.{Code}
 use Rattle.wa_ops.specs.declared.modules.FuncType.{FuncType}
 use Rattle.wa_ops.specs.declared.modules.Import.{Import}
@@ -9,13 +10,20 @@ use Rattle.wa_ops.specs.declared.modules.Module.{Module}
 use Rattle.wa_ops.specs.declared.modules.ModuleGlobal.{ModuleGlobal}
 use Rattle.wa_ops.specs.declared.op.ValueType.{ValueType}
 use Rattle.wa_ops.specs.Callees.{Callee, guard, accept, rollback, host_call}
-use Rattle.wa_ops.specs.Rows.{row_named, row_parameters}
+use Rattle.wa_ops.specs.Rows.{accept_row, guard_row, rollback_row, row_named, row_parameters}
 use Rattle.wa_ops.specs.Typing.{Context, GlobalType, and_then}
 
+-- what an import of this row is to the code; one of no row is a call past the table's end
 abbrev pub callee_of_row : Option ℕ → Callee
 callee_of_row None = host_call 65 []
 callee_of_row (Some row) =
-    if row == 0 then guard else if row == 1 then accept else if row == 2 then rollback else host_call row (row_parameters row)
+    if row == guard_row then guard else if row == accept_row then accept else
+    if row == rollback_row then rollback else host_call row (row_parameters row)
+
+-- what imports of these rows are to the code
+abbrev pub callees : List CallNo → List Callee
+callees [] = []
+callees (row ∷ rows) = callee_of_row (Some row.0) ∷ callees rows
 
 -- the functions that a module imports, in order; each other import has no place among them
 abbrev pub called : ImportItem → Import → List Callee → List Callee

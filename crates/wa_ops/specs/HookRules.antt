@@ -301,3 +301,30 @@ AreKept (rule ∷ rules) = IsNowhere rule.broken × AreKept rules
 -- the module meets all rules
 abbrev pub IsRuled : Module → Type 0
 IsRuled m = AreKept (hook_rules m)
+
+-- all rules, each by its name: at no place is it broken
+pub record KeepsRules (m : Module) : Type 0 where
+  pub float_types : (i : ℕ) → passes is_float_type m.types i ≡ false
+  pub float_globals : (i : ℕ) → passes (λ global. is_float global.kind) m.globals i ≡ false
+  pub float_locals : (func : ℕ) → passes has_float_locals m.codes func ≡ false
+  pub float_code : (func at : ℕ) → in_code (passes is_float_op) m.codes func at ≡ false
+  pub imports : (i : ℕ) → passes (λ import. not (is_api_import m.types import)) m.imports i ≡ false
+  pub types : (i : ℕ) → passes (λ t. nat_lt 1 (length t.results)) m.types i ≡ false
+  pub functions : (func : ℕ) → passes (λ index. nat_le (length m.types) index) m.functions func ≡ false
+  pub tables : (nat_lt 1 (length m.tables) || list_any is_bad_table m.tables) ≡ false
+  pub memories : (nat_lt 1 (length m.memories) || list_any is_bad_memory m.memories) ≡ false
+  pub globals : (i : ℕ) → passes (λ global. not (is_one (is_constant_of global.kind) global.init)) m.globals i ≡ false
+  pub exports : (has_repeats m.exports || (not (list_any is_hook m.exports) || list_any (is_bad_export (length (calls_of m.imports)) m) m.exports)) ≡ false
+  pub start : is_some m.start ≡ false
+  pub elements : has_items m.elements ≡ false
+  pub segments : (i : ℕ) → passes (λ segment. not (is_in_memory m.memories segment)) m.segments i ≡ false
+  pub locals : (func : ℕ) → passes (λ code. nat_lt 4096 (count_of_locals m func code)) m.codes func ≡ false
+  pub indirect_calls : (func at : ℕ) → in_code (passes is_indirect) m.codes func at ≡ false
+  pub growth : (func at : ℕ) → in_code (passes is_grow) m.codes func at ≡ false
+  pub own_calls : (func at : ℕ) → in_code (passes (is_own_call (calls_of m.imports))) m.codes func at ≡ false
+  pub guard_constants : (func at : ℕ) → in_code (lacks_constants (calls_of m.imports)) m.codes func at ≡ false
+  pub loop_guards : (func at : ℕ) → in_code (lacks_guard (calls_of m.imports)) m.codes func at ≡ false
+
+-- the rules in order are these rules
+abbrev pub RulesByName : Type 0
+RulesByName = (m : Module) → IsRuled m → KeepsRules m

@@ -9,3 +9,4 @@ pub mod Rows
 pub mod Contexts
 pub mod Soundness
 pub mod HookRules
+pub mod Functions

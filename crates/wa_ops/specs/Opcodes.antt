@@ -19,9 +19,21 @@ is_store n = n == 0x36 || n == 0x37 || among 0x3A 0x3E n
 abbrev pub is_float_access : ℕ → Bool
 is_float_access n = n == 0x2A || n == 0x2B || n == 0x38 || n == 0x39
 
--- i32.eqz to i64.ge_u; i32.clz to i64.rotr; i32.wrap_i64, i64.extend_i32_s, i64.extend_i32_u
+-- the sign extension operators, from i32.extend8_s to i64.extend32_s (WebAssembly's proposal "Sign-extension operators")
+abbrev pub is_extension : ℕ → Bool
+is_extension n = among 0xC0 0xC4 n
+
+-- i32.clz, i32.ctz, i32.popcnt; i32.extend8_s, i32.extend16_s
+abbrev pub is_unary32 : ℕ → Bool
+is_unary32 n = among 0x67 0x69 n || among 0xC0 0xC1 n
+
+-- i64.clz, i64.ctz, i64.popcnt; i64.extend8_s, i64.extend16_s, i64.extend32_s
+abbrev pub is_unary64 : ℕ → Bool
+is_unary64 n = among 0x79 0x7B n || among 0xC2 0xC4 n
+
+-- i32.eqz to i64.ge_u; i32.clz to i64.rotr; i32.wrap_i64, i64.extend_i32_s, i64.extend_i32_u; the sign extension operators
 abbrev pub is_number : ℕ → Bool
-is_number n = among 0x45 0x5A n || among 0x67 0x8A n || n == 0xA7 || n == 0xAC || n == 0xAD
+is_number n = among 0x45 0x5A n || among 0x67 0x8A n || n == 0xA7 || n == 0xAC || n == 0xAD || is_extension n
 
 -- f32.eq to f64.ge; f32.abs to f64.copysign; the conversions from floats and to them
 abbrev pub is_float_number : ℕ → Bool

@@ -1,8 +1,10 @@
 //! WebAssembly instructions and their trees, with the definitions that the checks and the interpreter share.
 #![tactic(auto)]
 
+mod bound;
 mod call_no;
 mod ends;
+mod hook_rules;
 mod items;
 mod modules;
 mod op;
@@ -11,8 +13,10 @@ mod rows;
 mod rule_fault;
 mod sequence;
 
+pub use bound::finer_bound;
 pub use call_no::CallNo;
 pub use ends::{behind_by_size, matching_ends};
+pub use hook_rules::rules_by_name;
 pub use items::{Items, NoMemory};
 pub use modules::{
     Code, Element, FuncType, Import, ImportItem, Limits, Module, ModuleExport, ModuleGlobal,

@@ -46,7 +46,9 @@ fn forms_at_their_edges(rt: HostRuntime) {
         (0xA8, Form::FloatNumber),
         (0xAD, Form::Number),
         (0xBF, Form::FloatNumber),
-        (0xC0, Form::Other),
+        (0xC0, Form::Number),
+        (0xC4, Form::Number),
+        (0xC5, Form::Other),
     ];
     for (opcode, form) in rows {
         assert_eq!(rt; form_of(opcode), form, "{opcode}");
@@ -67,7 +69,7 @@ fn items_are_a_list(rt: HostRuntime) -> Result<(), Fail> {
 
 #[test]
 fn calls_by_name(rt: HostRuntime) {
-    let rows: [(&[u8], Option<CallNo>); 8] = [
+    let rows: [(&[u8], Option<CallNo>); 9] = [
         (b"_g".as_slice(), Some(CallNo(0))),
         (b"accept".as_slice(), Some(CallNo(1))),
         (b"rollback".as_slice(), Some(CallNo(2))),
@@ -76,6 +78,7 @@ fn calls_by_name(rt: HostRuntime) {
         (b"_g\0".as_slice(), None),
         (b"Accept".as_slice(), None),
         (b"rollbacks".as_slice(), None),
+        (b"emit".as_slice(), None),
     ];
     for (name, row) in rows {
         assert_eq!(rt; call_by_name(name), row);
@@ -87,13 +90,17 @@ fn types_of_calls(rt: HostRuntime) {
     let (narrow, wide) = (ValueType::I32, ValueType::I64);
     let guard = [narrow, narrow];
     let ending = [narrow, narrow, wide];
-    let rows: [(u8, &[ValueType], ValueType); 3] = [
-        (0, guard.as_slice(), narrow),
-        (1, ending.as_slice(), wide),
-        (2, ending.as_slice(), wide),
+    let mixed = [narrow, narrow, narrow, narrow, narrow, narrow, wide, narrow];
+    let last = [narrow, narrow, narrow, narrow];
+    let rows: [(CallNo, &[ValueType], ValueType); 5] = [
+        (CallNo::GUARD, guard.as_slice(), narrow),
+        (CallNo::ACCEPT, ending.as_slice(), wide),
+        (CallNo::ROLLBACK, ending.as_slice(), wide),
+        (CallNo(22), mixed.as_slice(), wide),
+        (CallNo(64), last.as_slice(), wide),
     ];
     for (row, parameters, answer) in rows {
-        assert!(rt; call_parameters(CallNo(row)) == parameters);
-        assert_eq!(rt; call_answer(CallNo(row)), answer);
+        assert!(rt; call_parameters(row) == parameters);
+        assert_eq!(rt; call_answer(row), answer);
     }
 }

@@ -18,7 +18,8 @@ use Rattle.wa_validate.specs.declared.validation.TypeFault.{TypeFault}
 use Rattle.wa_validate.specs.declared.validation.TypeFault.TheVariants as fault
 use Rattle.wa_validate.specs.Depths.{surface, deeper, body_depth}
 use Rattle.wa_validate.specs.Steps.{begun, step}
-use Rattle.wa_validate.specs.Untyped.{body_typing, body_of, IsTypedAt, IsUntyped, HasDepths}
+use Rattle.wa_validate.specs.Untyped.{body_typing, IsTypedAt, IsUntyped, HasDepths}
+use Rattle.wa_ops.specs.Functions.{body_of}
 use Rattle.wa_validate.specs.Verdicts.{verdict_of}
 use Rattle.wa_validate.proofs.Bounds.{AreFewAt, step_few}
 use Rattle.wa_validate.proofs.Flat.{on_step, depth_of, verdict, body_walk}

@@ -2,18 +2,15 @@
 use Rattle.std.specs.Prelude.{ℕ, ◌≡◌, ◌<◌, List, [], ◌∷◌, Option, Some, length, slice_get}
 use Rattle.wa_ops.specs.declared.modules.Module.{Module}
 use Rattle.wa_ops.specs.Contexts.{context_of}
-use Rattle.wa_ops.specs.Sequences.{Sequence, size, tree_of}
-use Rattle.wa_ops.specs.Typing.{Context, Typing, leaves, fails, fresh, types, after_region, and_then, IsTyped}
+use Rattle.wa_ops.specs.Functions.{body_of}
+use Rattle.wa_ops.specs.Sequences.{Sequence, size}
+use Rattle.wa_ops.specs.Typing.{Context, Typing, leaves, fails, fresh, types, after_region, IsTyped}
 use Rattle.wa_validate.specs.declared.depth.Depth.{Depth}
 use Rattle.wa_validate.specs.Depths.{body_depth}
 
 -- the typing of a body up to its own end, where it must leave the function's result
 abbrev pub body_typing : Context → Sequence → Typing
 body_typing context body = after_region context.result (size body) (types context (context.result ∷ []) body 0 fresh) (leaves fresh)
-
--- the body of a defined function, as a tree
-abbrev pub body_of : Module → ℕ → Option Sequence
-body_of m function = and_then (slice_get m.codes function) (λ code. tree_of code.ops)
 
 abbrev pub IsTypedAt : Module → ℕ → Type 0
 IsTypedAt m function = (body : Sequence) → body_of m function ≡ Some body → IsTyped (context_of m function) body

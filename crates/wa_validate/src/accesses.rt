@@ -21,7 +21,7 @@ pub(crate) fn is_store(opcode: u8) -> bool
 pub(crate) fn is_number(opcode: u8) -> bool
     ensures number { result ≡ is_number opcode }
 {
-    matches!(opcode, 0x45..=0x5A | 0x67..=0x8A | 0xA7 | 0xAC | 0xAD)
+    matches!(opcode, 0x45..=0x5A | 0x67..=0x8A | 0xA7 | 0xAC | 0xAD | 0xC0..=0xC4)
 }
 
 pub(crate) fn load_type(opcode: u8) -> ValueType
@@ -75,8 +75,8 @@ pub(crate) fn number_takes(opcode: u8) -> (ValueType, bool)
     ensures takes { number_takes opcode ≡ operands_of result }
 {
     match opcode {
-        0x45 | 0x67..=0x69 | 0xAC | 0xAD => (ValueType::I32, false),
-        0x50 | 0x79..=0x7B | 0xA7 => (ValueType::I64, false),
+        0x45 | 0x67..=0x69 | 0xAC | 0xAD | 0xC0..=0xC1 => (ValueType::I32, false),
+        0x50 | 0x79..=0x7B | 0xA7 | 0xC2..=0xC4 => (ValueType::I64, false),
         0x46..=0x4F | 0x6A..=0x78 => (ValueType::I32, true),
         _ => (ValueType::I64, true),
     }
@@ -86,7 +86,7 @@ pub(crate) fn number_gives(opcode: u8) -> ValueType
     ensures kind { result ≡ number_gives opcode }
 {
     match opcode {
-        0x79..=0x8A | 0xAC | 0xAD => ValueType::I64,
+        0x79..=0x8A | 0xAC | 0xAD | 0xC2..=0xC4 => ValueType::I64,
         _ => ValueType::I32,
     }
 }

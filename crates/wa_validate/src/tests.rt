@@ -1,5 +1,5 @@
 //! Bodies written by hand, each with its depths or with the place where it isn't well typed.
-ghost use Rattle.std.specs.Prelude.{◌≡◌, ◌∷◌, [], ◌<◌, ◌^◌, IfOk, codes, length};
+ghost use Rattle.std.specs.Prelude.{◌≡◌, ◌∷◌, [], ◌<◌, ◌^◌, IfOk, length};
 ghost use Rattle.wa_ops.specs.Sequences.{IsNested};
 ghost use Rattle.wa_validate.specs.Needs.{AllRowTypes, AllBodies, AreFew};
 
@@ -8,10 +8,7 @@ use super::scope::Scope;
 use super::*;
 use std::alloc::{AllocError, Global};
 use std::test::Fail;
-use wa_ops::{
-    Code, FuncType, Import, ImportItem, Items, Limits, Module, ModuleGlobal, NoMemory, Op,
-    ValueType,
-};
+use wa_ops::{Code, FuncType, Items, Limits, Module, ModuleGlobal, NoMemory, Op, ValueType};
 
 // The result type that a region's word names: none, 32 or 64.
 fn kind_of(number: u32) -> Option<ValueType> {
@@ -143,17 +140,6 @@ fn type_of(alloc: Global, parameters: &[ValueType], answer: ValueType) -> Result
     })
 }
 
-fn import_of_accept(alloc: Global) -> Result<Import, NoMemory>
-    ensures name { IfOk result (λ import. import.name ≡ codes "accept") }
-    ensures item { IfOk result (λ import. import.item ≡ ImportItem.Function 1) }
-{
-    Ok(Import {
-        module: Items::from_vec(Vec::from_slice(alloc, b"env")?),
-        name: Items::from_vec(Vec::from_slice(alloc, b"accept")?),
-        item: ImportItem::Function(1),
-    })
-}
-
 fn globals(alloc: Global) -> Result<Items<ModuleGlobal>, NoMemory> {
     let mut globals = Items::new(alloc);
     for (kind, mutable) in [(ValueType::I32, true), (ValueType::I64, false)] {
@@ -166,7 +152,7 @@ fn globals(alloc: Global) -> Result<Items<ModuleGlobal>, NoMemory> {
     Ok(globals)
 }
 
-// A module with one function, from (i32) to i64, that has a local of i64 and this body. There are the import `accept`, a memory
+// A module with one function, from (i32) to i64, that has a local of i64 and this body. There are no imports, a memory
 // of one page, and two globals: an i32 that is mutable and an i64 that isn't.
 fn module_of(alloc: Global, ops: Vec<Op>) -> Result<Module, NoMemory>
     ensures imports { IfOk result (λ m. AllRowTypes m.types m.imports) }
@@ -174,19 +160,18 @@ fn module_of(alloc: Global, ops: Vec<Op>) -> Result<Module, NoMemory>
     ensures few { IfOk result (λ m. AreFew m.codes) }
 {
     let hook = type_of(alloc, &[ValueType::I32], ValueType::I64)?;
-    let accept = type_of(
+    let other = type_of(
         alloc,
         &[ValueType::I32, ValueType::I32, ValueType::I64],
         ValueType::I64,
     )?;
-    let import = import_of_accept(alloc)?;
     let code = Code {
         locals: Items::from_vec(Vec::from_slice(alloc, &[(1u32, ValueType::I64)])?),
         ops: Items::from_vec(ops),
     };
     Ok(Module {
-        types: Items::from_vec(vec![in alloc; hook, accept]?),
-        imports: Items::from_vec(vec![in alloc; import]?),
+        types: Items::from_vec(vec![in alloc; hook, other]?),
+        imports: Items::new(alloc),
         functions: Items::from_vec(vec![in alloc; 0u32]?),
         tables: Items::new(alloc),
         memories: Items::from_vec(vec![in alloc; Limits { min: 1, max: None }]?),
@@ -260,10 +245,7 @@ fn names_have_their_types(rt: HostRuntime) -> Result<(), Fail> {
         ("i64 global.set:1 i64 end", Err(1)),
         ("i32 global.set:0 global.get:1 end", Ok((1, 1))),
         ("global.get:2 end", Err(0)),
-        ("i32 i32 i64 call:0 end", Ok((3, 1))),
-        ("i32 i64 i64 call:0 end", Err(3)),
-        ("i32 i64 call:0 end", Err(2)),
-        ("call:1 end", Err(0)),
+        ("call:0 end", Err(0)),
         ("i32 i32 i64 i32 call_indirect:1 end", Err(4)),
     ];
     for (text, want) in rows {
@@ -339,44 +321,5 @@ fn regions_and_branches_keep_their_results(rt: HostRuntime) -> Result<(), Fail> 
     for (text, want) in rows {
         assert_eq!(rt; verdict(rt.alloc(), text)?, want, "of {text}");
     }
-    Ok(())
-}
-
-// The depths of a module with this function alone, or its fault.
-fn told(alloc: Global, module: &Module) -> Result<String, AllocError>
-    requires imports { AllRowTypes «module».now.types «module».now.imports }
-    requires bodies { AllBodies «module».now.codes }
-    requires few { AreFew «module».now.codes }
-{
-    match validate(alloc, module) {
-        Ok(typed) => {
-            let depths = typed.depths.as_slice();
-            format!(in alloc; "{depths:?}")
-        }
-        Err(fault) => format!(in alloc; "{fault:?}"),
-    }
-}
-
-#[test]
-fn modules_are_typed_or_not(rt: HostRuntime) -> Result<(), Fail> {
-    let alloc = rt.alloc();
-    let ops = vec![in alloc;
-        Op::I32Const(0),
-        Op::I32Const(0),
-        Op::I64Const(0),
-        Op::Call(0),
-        Op::End,
-    ]?;
-    let module = module_of(alloc, ops)?;
-    assert_eq!(rt;
-        told(alloc, &module)?.as_str(),
-        "[Depth { operands: 3, labels: 1 }]"
-    );
-    let ops = vec![in alloc; Op::I32Const(0), Op::I64Const(0), Op::Call(0), Op::End]?;
-    let module = module_of(alloc, ops)?;
-    assert_eq!(rt;
-        told(alloc, &module)?.as_str(),
-        "Untyped { func: 0, op: 2 }"
-    );
     Ok(())
 }
