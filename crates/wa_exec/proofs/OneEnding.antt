@@ -1,9 +1,10 @@
 -- A run has one ending.
 use Rattle.std.proofs.Common.{◌≡◌, ℕ, zero, suc, Some, sym, ◌∙◌, ap, subst}
 use Rattle.hk_base.specs.declared.outcome.Outcome.{Outcome}
-use Rattle.wa_exec.specs.Runs.{world_at, start_at, OneEnding}
+use Rattle.wa_exec.specs.Runs.{OneEnding}
 use Rattle.wa_machine.specs.Machine.{Configuration, World, Step, next, ended, fault, step, EndsAfter, Ends}
-use Rattle.wa_validate.specs.Untyped.{body_of}
+use Rattle.wa_machine.specs.Starts.{world_at, start_at}
+use Rattle.wa_ops.specs.Functions.{body_of}
 
 pub record IsSame {S : Type 0} (n m : ℕ) (o p : Outcome) (c d : Configuration S) : Type 0 where
   pub steps : n ≡ m

@@ -1,13 +1,11 @@
 -- The values that the variables of a run begin with: their types, their words, and that these fit.
-use Rattle.std.proofs.Common.{ℕ, ◌≡◌, ◌+◌, ◌||◌, suc, zero, List, [], ◌∷◌, ◌++◌, ◌∙◌, not, Bool, true, false, refl, sym, ap₂, length, length-append, arith}
-use Rattle.std.specs.Prelude.{map, replicate, sum_by}
+use Rattle.std.proofs.Common.{ℕ, ◌≡◌, suc, zero, List, [], ◌∷◌, ◌++◌, not, false, refl, sym, ap₂, length, arith}
+use Rattle.std.specs.Prelude.{map, replicate}
 use Rattle.std.specs.List.{list_any}
-use Rattle.std.proofs.lemmas.List.{length-replicate}
-use Rattle.std.proofs.lemmas.List.Sums.{sum_by-cons}
-use Rattle.wa_exec.specs.Made.{FirstFits}
-use Rattle.wa_exec.specs.Runs.{zero_of, global_value}
+use Rattle.std.proofs.lemmas.Bool.{or_parts}
 use Rattle.wa_machine.specs.Law.{types_of, kinds_of}
 use Rattle.wa_machine.specs.Machine.{type_of, word_of, value_of}
+use Rattle.wa_machine.specs.Starts.{first_word, global_value, zero_of}
 use Rattle.wa_ops.specs.Contexts.{expanded, global_types}
 use Rattle.wa_ops.specs.HookRules.{is_float, passes, is_one, is_constant_of}
 use Rattle.wa_ops.specs.Soundness.{Each}
@@ -17,15 +15,7 @@ use Rattle.wa_ops.specs.declared.op.Op.TheVariants.{I32Const, I64Const}
 use Rattle.wa_ops.specs.declared.op.ValueType.{ValueType}
 use Rattle.wa_ops.specs.declared.op.ValueType.TheVariants.{I32, I64, F32, F64}
 use Rattle.wa_run.specs.Flat.{words_of, IsValue, AllValues}
-use Rattle.wa_run.specs.Starts.{first_word, first_globals}
-
-or_left : (a b : Bool) → (a || b) ≡ false → a ≡ false
-or_left false b e = refl
-or_left true b e = absurd (cc e)
-
-or_right : (a b : Bool) → (a || b) ≡ false → b ≡ false
-or_right false b e = e
-or_right true b e = absurd (cc e)
+use Rattle.wa_run.specs.Starts.{first_globals, HasWidth}
 
 value_typed : (kind : ValueType) (n : ℕ) → is_float kind ≡ false → type_of (value_of kind n) ≡ kind
 value_typed I32 n e = refl
@@ -49,8 +39,8 @@ run_typed (suc n) kind more none e = ap₂ (λ k ks. k ∷ ks) (value_typed kind
 pub locals_typed : (runs : List (ℕ × ValueType)) → list_any (λ run. is_float run.1) runs ≡ false → types_of (map zero_of (expanded runs)) ≡ expanded runs
 locals_typed [] e = refl
 locals_typed (run ∷ runs) e =
-    run_typed run.0 run.1 (expanded runs) (or_left (is_float run.1) (list_any (λ r. is_float r.1) runs) e)
-    (locals_typed runs (or_right (is_float run.1) (list_any (λ r. is_float r.1) runs) e))
+    let parts : (is_float run.1 ≡ false) × (list_any (λ r. is_float r.1) runs ≡ false) = or_parts (is_float run.1) (list_any (λ r. is_float r.1) runs) e in
+    run_typed run.0 run.1 (expanded runs) parts.0 (locals_typed runs parts.1)
 
 pub zero_words : (kinds : List ValueType) → words_of (map zero_of kinds) ≡ replicate (length kinds) 0
 zero_words [] = refl
@@ -66,12 +56,6 @@ pub zeros_fit : (kinds : List ValueType) → AllValues (map zero_of kinds)
 zeros_fit [] = tt
 zeros_fit (kind ∷ kinds) = (zero_fits kind, zeros_fit kinds)
 
-pub locals_counted : (runs : List (ℕ × ValueType)) → length (expanded runs) ≡ sum_by (λ run. run.0) runs
-locals_counted [] = refl
-locals_counted (run ∷ runs) =
-    length-append (replicate run.0 run.1) (expanded runs) ∙ ap₂ (λ a b. a + b) (length-replicate run.0 run.1) (locals_counted runs)
-    ∙ sym (sum_by-cons (λ r. r.0) run runs)
-
 -- ---- globals
 
 pub globals_typed : (globals : List ModuleGlobal) → ((i : ℕ) → passes (λ global. is_float global.kind) globals i ≡ false)
@@ -84,13 +68,13 @@ pub global_words : (globals : List ModuleGlobal) → first_globals globals ≡ w
 global_words [] = refl
 global_words (global ∷ globals) = ap₂ (λ n ns. n ∷ ns) (sym (value_word global.kind (first_word global.init))) (global_words globals)
 
-constant_fits : (kind : ValueType) (init : List Op) → not (is_one (is_constant_of kind) init) ≡ false → FirstFits init → IsValue (value_of kind (first_word init))
+constant_fits : (kind : ValueType) (init : List Op) → not (is_one (is_constant_of kind) init) ≡ false → HasWidth init → IsValue (value_of kind (first_word init))
 constant_fits kind [] e f = absurd (cc e)
 constant_fits I32 (I32Const n ∷ ops) e f = f
 constant_fits I64 (I64Const n ∷ ops) e f = f
 constant_fits kind (op ∷ ops) e f = absurd (cc e)
 
 pub globals_fit : (globals : List ModuleGlobal) → ((i : ℕ) → passes (λ global. not (is_one (is_constant_of global.kind) global.init)) globals i ≡ false)
-    → Each (λ global. FirstFits global.init) globals → AllValues (map global_value globals)
+    → Each (λ global. HasWidth global.init) globals → AllValues (map global_value globals)
 globals_fit [] kept fit = tt
 globals_fit (global ∷ globals) kept fit = (constant_fits global.kind global.init (kept 0) fit.0, globals_fit globals (λ i. kept (suc i)) fit.1)

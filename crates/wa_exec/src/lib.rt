@@ -4,8 +4,6 @@
 mod instance;
 mod laws;
 mod starting;
-#[cfg(test)]
-mod tests;
 
 pub use hk_bound::Export;
 pub use instance::Instance;

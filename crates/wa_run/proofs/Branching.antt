@@ -6,7 +6,7 @@ use Rattle.wa_ops.specs.declared.op.ValueType.{ValueType}
 use Rattle.wa_machine.specs.Machine.{Value, word_of, Region, Configuration, World, Step, onward, with_some, with_word, taken_result, return_with, arrive, branch, leave, label_at, ticked, step}
 use Rattle.wa_run.specs.Acts.{Holds, IsNoFault}
 use Rattle.wa_run.specs.Flat.{words_of, all_words, Standing, AllMark, IsRooted}
-use Rattle.wa_run.specs.Room.{passes_of}
+use Rattle.wa_run.specs.Guards.{passes_of}
 use Rattle.wa_run.specs.Running.{Is, Follows, BeforeBranch, Branches, CanBranch, CanTurn}
 use Rattle.wa_run.specs.declared.running.Running.{Running}
 use Rattle.wa_run.specs.declared.running.Stop.{Stop}

@@ -1,14 +1,13 @@
 -- The calls of imports: what they take, and what they leave of the run.
-use Rattle.std.proofs.Common.{◌≡◌, ◌+◌, ◌-◌, ◌^◌, ◌<◌, ◌≤◌, ◌==◌, ℕ, zero, suc, ℤ, List, [], ◌∷◌, ◌++◌, Option, Some, None, Bool, true, false, if◌then◌else◌, nat_lt, cond, IsTrue, IsFalse, length, map, take, drop, reverse, slice_get, slice_index_or, sym, ◌∙◌, ap, subst, refl, arith, append_assoc}
+use Rattle.std.proofs.Common.{◌≡◌, ◌+◌, ◌-◌, ◌^◌, ◌<◌, ◌≤◌, ◌==◌, ℕ, zero, suc, ℤ, List, [], ◌∷◌, ◌++◌, Option, Some, None, Bool, true, false, if◌then◌else◌, nat_lt, IsTrue, IsFalse, length, map, take, drop, reverse, slice_get, slice_index_or, sym, ◌∙◌, ap, subst, refl, arith, append_assoc}
 use Rattle.std.proofs.lemmas.Bool.Decides.{nat_tests}
 use Rattle.std.proofs.lemmas.Option.{slice_get-get_or}
-use Rattle.std.proofs.lemmas.List.{take_at, drop_at, length-reverse, length-append, map-append, reverse-append}
-use Rattle.std.proofs.lemmas.List.Sums.{sum_by-append}
+use Rattle.std.proofs.lemmas.List.{take_at, drop_at, length-reverse, length-append, map-append, reverse-append, reverse-reverse}
 use Rattle.std.specs.Int.{cast_signed, cast_unsigned, w64}
 use Rattle.hk_base.specs.declared.outcome.Outcome.{Outcome}
 use Rattle.hk_base.specs.declared.outcome.Outcome.TheVariants.{Accepted, RolledBack, GuardViolated}
-use Rattle.wa_ops.specs.Callees.{Callee, guard, accept, rollback, host_call, takes}
-use Rattle.wa_ops.specs.Contexts.{callee_of_row}
+use Rattle.wa_ops.specs.Callees.{Callee, guard, accept, rollback, host_call, takes, AreArguments}
+use Rattle.wa_ops.specs.Contexts.{callee_of_row, callees}
 use Rattle.wa_ops.specs.Rows.{row_parameters}
 use Rattle.wa_ops.specs.declared.call_no.CallNo.{CallNo}
 use Rattle.wa_ops.specs.declared.op.Op.{Op}
@@ -18,11 +17,11 @@ use Rattle.wa_ops.specs.declared.op.ValueType.TheVariants.{I32, I64}
 use Rattle.wa_ops.specs.Sequences.{Sequence}
 use Rattle.wa_num.specs.Memory.{fits}
 use Rattle.wa_machine.specs.Law.{types_of}
-use Rattle.wa_machine.specs.Machine.{Value, word32, word64, word_of, Region, Configuration, World, HostMeaning, Step, ended, onward, with_some, with_all, text_of, counted, pass, call, act, ticked, step}
+use Rattle.wa_machine.specs.Machine.{Value, word32, word64, type_of, word_of, Region, Configuration, World, HostMeaning, Step, ended, onward, with_some, with_all, text_of, counted, pass, call, act, ticked, step}
 use Rattle.wa_run.specs.Acts.{IsNoFault}
-use Rattle.wa_run.specs.Calls.{AreRows, Asks, CallsIt, CanCall, CanGo, Goes, callees_of, ending_of}
+use Rattle.wa_run.specs.Calls.{AreRows, Asks, CallsIt, CanCall, CanGo, Goes, ending_of}
 use Rattle.wa_run.specs.Flat.{words_of, all_words, AllValues, IsNarrow, Standing}
-use Rattle.wa_run.specs.Room.{passes_of}
+use Rattle.wa_run.specs.Guards.{passes_of}
 use Rattle.wa_run.specs.Running.{Is, outcome_of, IsHeld, Follows}
 use Rattle.wa_run.specs.declared.running.Message.{Message}
 use Rattle.wa_run.specs.declared.running.Running.{Running}
@@ -32,6 +31,7 @@ use Rattle.wa_run.proofs.Plain.{FindsSome, found_some, FindsAll, found_all, Keep
 use Rattle.wa_run.proofs.Leaving.{words_append}
 use Rattle.wa_run.proofs.Choosing.{if_is_true, if_is_false}
 use Rattle.wa_run.proofs.Following.{unticked, Top, guards_stay, onward_follows, BeforePlain, before_plain}
+use Rattle.wa_run.proofs.Numeric.{fit_front}
 
 -- ---- what a call takes
 
@@ -154,30 +154,22 @@ other_narrow words more word t e =
     let q : t.other ∷ t.below ≡ more = cc in
     subst IsNarrow q t.other_fits
 
-pub counted_passes : (id : ℕ) (guards : ℕ → ℕ) (ids : List ℕ) → ((other : ℕ) → guards other ≡ passes_of ids other) → (other : ℕ) → counted id guards other ≡ passes_of (ids ++ id ∷ []) other
-counted_passes id guards ids h other = at (other == id) refl
-  where
-    more : passes_of (ids ++ id ∷ []) other ≡ passes_of ids other + (0 + cond (id == other) 1 0)
-    more = sum_by-append (λ passed. cond (passed == other) 1 0) ids (id ∷ [])
-
-    at : (same : Bool) → (other == id) ≡ same → (if same then suc (guards other) else guards other) ≡ passes_of (ids ++ id ∷ []) other
-    at true e =
-        let p : (id == other) ≡ true = grind (arith, nat_tests) in
-        let q : passes_of (ids ++ id ∷ []) other ≡ passes_of ids other + 1 = more ∙ ap (λ (b : Bool). passes_of ids other + (0 + cond b 1 0)) p in
-        omega (arith, h other, q)
-    at false e =
-        let p : (id == other) ≡ false = grind (arith, nat_tests) in
-        let q : passes_of (ids ++ id ∷ []) other ≡ passes_of ids other + 0 = more ∙ ap (λ (b : Bool). passes_of ids other + (0 + cond b 1 0)) p in
-        omega (arith, h other, q)
-
 -- what a pass of the guard leaves of the run
 pub record Passes (limit id : ℕ) (below : List ℕ) (old new : Running) : Type 0 where
   pub words : old.store.words.items ≡ limit ∷ id ∷ below
   pub keeps : Keeps old.store new.store
   pub labels : new.labels.items ≡ old.labels.items
-  pub guards : new.guards.items ≡ old.guards.items ++ id ∷ []
+  pub guards : (other : ℕ) → passes_of new.guards.items other ≡ counted id (passes_of old.guards.items) other
 
-pub guard_goes : {S : Type 0} (function limit id : ℕ) (below : List ℕ) (old new : Running) → Passes limit id below old new → passes_of old.guards.items id < limit → new.store.words.items ≡ 1 ∷ below → new.at ≡ old.at + 1 →
+-- the counts of a machine and of a run that agree do so after one pass more
+pub counts_agree : (id : ℕ) (guards before after : ℕ → ℕ) → ((other : ℕ) → guards other ≡ before other) → ((other : ℕ) → after other ≡ counted id before other) → (other : ℕ) → counted id guards other ≡ after other
+counts_agree id guards before after h e other = at (other == id) (e other)
+  where
+    at : (same : Bool) → after other ≡ (if same then suc (before other) else before other) → (if same then suc (guards other) else guards other) ≡ after other
+    at true n = ap suc (h other) ∙ sym n
+    at false n = h other ∙ sym n
+
+pub guard_goes : {S : Type 0} (function limit id : ℕ) (below : List ℕ) (old new : Running) → Passes limit id below old new → nat_lt (passes_of old.guards.items id) limit ≡ true → new.store.words.items ≡ 1 ∷ below → new.at ≡ old.at + 1 →
     (world : World S) (c : Configuration S) (ops : List Op) (ends : List ℕ) → Is ops ends c old → slice_get ops old.at ≡ Some (op.Call function) → slice_get world.context.calls function ≡ Some guard → IsNoFault (step world c) →
     Follows ops ends (step world c) None new c.host
 guard_goes {S} function limit id below old new p few w a world c ops ends i h k s =
@@ -189,15 +181,15 @@ guard_goes {S} function limit id below old new p few w a world c ops ends i h k 
     let same_below : below ≡ words_of g.at.left ++ all_words i.around = cc in
     let region : Region = record i.region { rest = g.at.rest } in
     let after : Configuration S = record c { guards = counted id c.guards } in
-    let test : nat_lt (c.guards id) limit ≡ true = subst (λ n. nat_lt n limit ≡ true) (sym (i.guards id)) (grind (arith, nat_tests)) in
+    let test : nat_lt (c.guards id) limit ≡ true = subst (λ n. nat_lt n limit ≡ true) (sym (i.guards id)) few in
     let e : step world c ≡ ticked (suc c.count) (onward region i.around (word32 1 ∷ g.at.left) after) =
     g.step_is ∙ ap (λ n. ticked (suc c.count) (pass n g.limit region i.around g.at.left c)) same_id ∙ ap (λ n. ticked (suc c.count) (pass id n region i.around g.at.left c)) same_limit
     ∙ ap (ticked (suc c.count)) (if_is_true (nat_lt (c.guards id) limit) (onward region i.around (word32 1 ∷ g.at.left) after) (ended (GuardViolated id limit) after) test) in
     onward_follows i.region i.around g.at.rest (word32 1 ∷ g.at.left) after c.host old new world c ops ends g.at.top g.at.standing i.rooted e
     (moved i.around i.around i.region.operands (word32 1 ∷ g.at.left) c.locals c.globals c.memory old.store new.store i.holds (omega arith, g.left_fits) (w ∙ ap (λ words. 1 ∷ words) same_below) p.keeps)
-    a p.labels (λ other. counted_passes id c.guards old.guards.items i.guards other ∙ ap (λ ids. passes_of ids other) (sym p.guards)) refl
+    a p.labels (counts_agree id c.guards (passes_of old.guards.items) (passes_of new.guards.items) i.guards p.guards) refl
 
-pub guard_stops : {S : Type 0} (function limit id : ℕ) (below : List ℕ) (old new : Running) → old.store.words.items ≡ limit ∷ id ∷ below → limit ≤ passes_of old.guards.items id →
+pub guard_stops : {S : Type 0} (function limit id : ℕ) (below : List ℕ) (old new : Running) → old.store.words.items ≡ limit ∷ id ∷ below → nat_lt (passes_of old.guards.items id) limit ≡ false →
     (world : World S) (c : Configuration S) (ops : List Op) (ends : List ℕ) → Is ops ends c old → slice_get ops old.at ≡ Some (op.Call function) → slice_get world.context.calls function ≡ Some guard → IsNoFault (step world c) →
     Follows ops ends (step world c) (Some (stop.GuardViolated id limit)) new c.host
 guard_stops {S} function limit id below old new was many world c ops ends i h k s =
@@ -207,7 +199,7 @@ guard_stops {S} function limit id below old new was many world c ops ends i h k 
     let same_id : g.id ≡ id = cc in
     let region : Region = record i.region { rest = g.at.rest } in
     let after : Configuration S = record c { guards = counted id c.guards } in
-    let test : nat_lt (c.guards id) limit ≡ false = subst (λ n. nat_lt n limit ≡ false) (sym (i.guards id)) (grind (arith, nat_tests)) in
+    let test : nat_lt (c.guards id) limit ≡ false = subst (λ n. nat_lt n limit ≡ false) (sym (i.guards id)) many in
     let e : step world c ≡ ticked (suc c.count) (ended (GuardViolated id limit) after) =
     g.step_is ∙ ap (λ n. ticked (suc c.count) (pass n g.limit region i.around g.at.left c)) same_id ∙ ap (λ n. ticked (suc c.count) (pass id n region i.around g.at.left c)) same_limit
     ∙ ap (ticked (suc c.count)) (if_is_false (nat_lt (c.guards id) limit) (onward region i.around (word32 1 ∷ g.at.left) after) (ended (GuardViolated id limit) after) test) in
@@ -382,6 +374,42 @@ words_reversed (value ∷ values) =
 pub arguments_are : (taken : List Value) (below words : List ℕ) (count : ℕ) → words ≡ words_of taken ++ below → length (words_of taken) ≡ count → reverse (take count words) ≡ map word_of (reverse taken)
 arguments_are taken below words count e l = ap (λ xs. reverse (take count xs)) e ∙ ap reverse (take_at (words_of taken) below count l) ∙ words_reversed taken
 
+-- values are arguments of their types
+pub arguments_fit : (values : List Value) → AllValues values → AreArguments (types_of values) (map word_of values)
+arguments_fit [] v = tt
+arguments_fit (word32 n ∷ values) v = (v.0, arguments_fit values v.1)
+arguments_fit (word64 n ∷ values) v = arguments_fit values v.1
+
+pub types_append : (xs ys : List Value) → types_of (xs ++ ys) ≡ types_of xs ++ types_of ys
+types_append [] ys = refl
+types_append (x ∷ xs) ys = ap (λ kinds. type_of x ∷ kinds) (types_append xs ys)
+
+pub types_reversed : (values : List Value) → types_of (reverse values) ≡ reverse (types_of values)
+types_reversed [] = refl
+types_reversed (value ∷ values) =
+    ap types_of (reverse-append (value ∷ []) values) ∙ types_append (reverse values) (value ∷ [])
+    ∙ ap (λ kinds. kinds ++ type_of value ∷ []) (types_reversed values) ∙ sym (reverse-append (type_of value ∷ []) (types_of values))
+
+pub values_append : (xs ys : List Value) → AllValues xs → AllValues ys → AllValues (xs ++ ys)
+values_append [] ys v w = w
+values_append (x ∷ xs) ys v w = (v.0, values_append xs ys v.1 w)
+
+pub values_reversed : (values : List Value) → AllValues values → AllValues (reverse values)
+values_reversed [] v = tt
+values_reversed (value ∷ values) v =
+    subst AllValues (sym (reverse-append (value ∷ []) values)) (values_append (reverse values) (value ∷ []) (values_reversed values v.1) (v.0, tt))
+
+-- what a call of the host takes are arguments of its row
+pub ask_fits : (S : Type 0) (row : ℕ) (parameters : List ValueType) (function : ℕ) (old : Running) → CanCall S (host_call row parameters) function old →
+    AreArguments parameters (reverse (take (length parameters) old.store.words.items))
+ask_fits S row parameters function old m =
+    let a : AtCall m.world m.c m.ops m.ends old (host_call row parameters) m.is.region m.is.around = at_call (host_call row parameters) function old m.world m.c m.ops m.ends m.is m.here m.calls m.sound in
+    let given : reverse (take (length parameters) old.store.words.items) ≡ map word_of (reverse a.taken) =
+    arguments_are a.taken (words_of a.left ++ all_words m.is.around) old.store.words.items (length parameters) a.words (taken_long a.taken parameters a.types) in
+    let kinds : types_of (reverse a.taken) ≡ parameters = types_reversed a.taken ∙ ap reverse a.types ∙ reverse-reverse parameters in
+    subst (AreArguments parameters) (sym given)
+    (subst (λ types. AreArguments types (map word_of (reverse a.taken))) kinds (arguments_fit (reverse a.taken) (values_reversed a.taken (fit_front a.taken a.left a.values))))
+
 -- what a call of the host leaves of the run
 pub record Answered {S : Type 0} (meaning : HostMeaning S) (row count : ℕ) (arguments : List ℕ) (word : ℕ) (old : Running) (before : S) (new : Running) (after : S) : Type 0 where
   pub arguments_are : arguments ≡ reverse (take count old.store.words.items)
@@ -435,12 +463,12 @@ ask_follows {S} meaning row function parameters arguments word old before new af
 
 -- ---- the function of a row
 
-pub callees_get : (calls : List CallNo) (function : ℕ) (number : CallNo) → slice_get calls function ≡ Some number → slice_get (callees_of calls) function ≡ Some (callee_of_row (Some number.0))
+pub callees_get : (calls : List CallNo) (function : ℕ) (number : CallNo) → slice_get calls function ≡ Some number → slice_get (callees calls) function ≡ Some (callee_of_row (Some number.0))
 callees_get [] function number e = absurd cc
 callees_get (first ∷ calls) zero number e = let p : first ≡ number = cc in ap (λ (n : CallNo). Some (callee_of_row (Some n.0))) p
 callees_get (first ∷ calls) (suc function) number e = callees_get calls function number e
 
-pub callees_long : (calls : List CallNo) → length (callees_of calls) ≡ length calls
+pub callees_long : (calls : List CallNo) → length (callees calls) ≡ length calls
 callees_long [] = refl
 callees_long (number ∷ calls) = ap suc (callees_long calls)
 
@@ -462,7 +490,7 @@ call_within S ops ends calls function old h m =
     let go : Callee → Step S = λ callee. with_all (takes callee) m.is.region.operands (λ arguments left. call m.world callee arguments region m.is.around left m.c) in
     let f : FindsSome (slice_get m.world.context.calls function) =
     found_some (slice_get m.world.context.calls function) go (unticked (suc m.c.count) (with_some (slice_get m.world.context.calls function) go) (subst IsNoFault b.step_is m.sound)) in
-    omega (arith, some_within (callees_of calls) function f.value (ap (λ callees. slice_get callees function) (sym m.calls_are) ∙ f.is), callees_long calls)
+    omega (arith, some_within (callees calls) function f.value (ap (λ callees. slice_get callees function) (sym m.calls_are) ∙ f.is), callees_long calls)
 
 pub can_call : (S : Type 0) (ops : List Op) (ends : List ℕ) (calls : List CallNo) (function : ℕ) (number : CallNo) (callee : Callee) (old : Running) → slice_get ops old.at ≡ Some (op.Call function) →
     slice_get calls function ≡ Some number → callee_of_row (Some number.0) ≡ callee → CanGo S ops ends calls old → CanCall S callee function old

@@ -8,7 +8,7 @@ use Rattle.wa_ops.specs.Sequences.{Sequence, plain, block, loop, nesting, stands
 use Rattle.wa_machine.specs.Machine.{Value, Kind, inner, turns, Region, Configuration, World, Step, next, ended, fault, onward, act, enter, node, innermost, ticked, step}
 use Rattle.wa_run.specs.Acts.{Holds, IsNoFault, GoesOn, Acts, ActsOr}
 use Rattle.wa_run.specs.Flat.{words_of, all_words, Standing, IsOfKind, has_result, IsLabelled, Marks, AllMark, IsRooted}
-use Rattle.wa_run.specs.Room.{passes_of}
+use Rattle.wa_run.specs.Guards.{passes_of}
 use Rattle.wa_run.specs.Running.{Is, Follows}
 use Rattle.wa_run.specs.declared.label.Label.{Label}
 use Rattle.wa_run.specs.declared.label.Place.TheVariants as place

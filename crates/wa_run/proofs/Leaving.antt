@@ -10,7 +10,7 @@ use Rattle.wa_ops.specs.Sequences.{Sequence, done}
 use Rattle.wa_machine.specs.Machine.{Value, type_of, word_of, Kind, body, inner, turns, Region, Configuration, World, Step, next, ended, with_some, whole_result, taken_result, return_with, hand_on, close, arrive, branch, ticked, step}
 use Rattle.wa_run.specs.Acts.{Holds, IsNoFault}
 use Rattle.wa_run.specs.Flat.{words_of, all_words, AllValues, IsMarker, Standing, IsOfKind, has_result, Marks, AllMark, IsRooted, carried_words}
-use Rattle.wa_run.specs.Room.{passes_of}
+use Rattle.wa_run.specs.Guards.{passes_of}
 use Rattle.wa_run.specs.Running.{Is, Follows, CanTurn, BeforeBranch, CanBranch}
 use Rattle.wa_run.specs.declared.label.Label.{Label}
 use Rattle.wa_run.specs.declared.label.Place.{Place}

@@ -12,5 +12,6 @@ pub mod Numeric
 pub mod Accesses
 pub mod Told
 pub mod Starting
-pub mod Sampling
-pub mod Beginning
+pub mod Counters
+pub mod Moves
+pub mod Depths

@@ -1,6 +1,6 @@
 -- Lists that contracts see from their last item on.
-use Rattle.std.proofs.Common.{◌≡◌, ◌-◌, ◌≤◌, ℕ, List, ◌++◌, length, take, drop, reverse, sym, ◌∙◌, ap, arith, length-drop}
-use Rattle.std.proofs.lemmas.List.{take-append-drop, reverse-append, reverse-reverse, length-reverse, drop_at, take_at, take_all}
+use Rattle.std.proofs.Common.{◌≡◌, ◌+◌, ◌-◌, ◌≤◌, ℕ, List, ◌++◌, length, take, drop, reverse, sym, ◌∙◌, ap, arith, length-drop}
+use Rattle.std.proofs.lemmas.List.{take-append-drop, reverse-append, reverse-reverse, length-reverse, length-take-le, drop_at, drop-take, take_at}
 
 -- the first items that were put, seen from the last on
 pub take_reversed : {A : Type 0} (xs : List A) (count : ℕ) → count ≤ length xs → reverse (take (length xs - count) xs) ≡ drop count (reverse xs)
@@ -20,12 +20,16 @@ kept xs ys height e h =
     let size : length ys ≡ length xs = ap length (sym e) ∙ length-reverse xs in
     unwound xs ys (length ys - height) e (omega arith) height (omega arith)
 
--- the last items that were put, in order
-pub last_put : {A : Type 0} (xs ys : List A) (count size : ℕ) → reverse xs ≡ ys → count ≤ length ys → size ≡ length xs → take (length xs - (size - count)) (drop (size - count) xs) ≡ reverse (take count ys)
-last_put xs ys count size e h s =
-    let n : ℕ = size - count in
-    let same : length ys ≡ length xs = ap length (sym e) ∙ length-reverse xs in
-    let parts : ys ≡ reverse (drop n xs) ++ reverse (take n xs) = sym e ∙ ap reverse (sym (take-append-drop n xs)) ∙ reverse-append (take n xs) (drop n xs) in
-    let long : length (reverse (drop n xs)) ≡ count = length-reverse (drop n xs) ∙ length-drop n xs ∙ omega arith in
-    let front : reverse (take count ys) ≡ drop n xs = ap reverse (ap (take count) parts ∙ take_at (reverse (drop n xs)) (reverse (take n xs)) count long) ∙ reverse-reverse (drop n xs) in
-    take_all (length xs - n) (drop n xs) (omega (arith, length-drop n xs)) ∙ sym front
+-- the last items that were put, in order, of which there are so many in front of the room
+pub last_put : {A : Type 0} (xs ys : List A) (count height : ℕ) → reverse (take height xs) ≡ ys → count ≤ length ys → height ≤ length xs →
+    take (height - (height - count)) (drop (height - count) xs) ≡ reverse (take count ys)
+last_put {A} xs ys count height e h s =
+    let n : ℕ = height - count in
+    let put : List A = take height xs in
+    let size : length put ≡ height = length-take-le height xs s in
+    let same : length ys ≡ height = ap length (sym e) ∙ length-reverse put ∙ size in
+    let parts : ys ≡ reverse (drop n put) ++ reverse (take n put) = sym e ∙ ap reverse (sym (take-append-drop n put)) ∙ reverse-append (take n put) (drop n put) in
+    let long : length (reverse (drop n put)) ≡ count = length-reverse (drop n put) ∙ length-drop n put ∙ omega arith in
+    let front : reverse (take count ys) ≡ drop n put = ap reverse (ap (take count) parts ∙ take_at (reverse (drop n put)) (reverse (take n put)) count long) ∙ reverse-reverse (drop n put) in
+    let whole : n + (height - n) ≡ height = omega arith in
+    sym (front ∙ ap (λ m. drop n (take m xs)) (sym whole) ∙ drop-take n (height - n) xs)

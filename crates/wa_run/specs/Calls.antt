@@ -1,7 +1,7 @@
 -- Calls of imports in flat code, against one step of the machine.
-use Rattle.std.specs.Prelude.{ℕ, ℤ, ◌≡◌, ◌≤◌, Bool, true, false, List, [], ◌∷◌, Option, Some, None, slice_get}
+use Rattle.std.specs.Prelude.{ℕ, ◌≡◌, ◌≤◌, Bool, true, false, List, [], ◌∷◌, Option, Some, None, slice_get}
 use Rattle.wa_ops.specs.Callees.{Callee, accept, rollback}
-use Rattle.wa_ops.specs.Contexts.{callee_of_row}
+use Rattle.wa_ops.specs.Contexts.{callees}
 use Rattle.wa_ops.specs.declared.call_no.CallNo.{CallNo}
 use Rattle.wa_ops.specs.declared.op.Op.{Op}
 use Rattle.wa_ops.specs.declared.op.Op.TheVariants.{Call}
@@ -11,19 +11,10 @@ use Rattle.wa_run.specs.Running.{Is, Follows}
 use Rattle.wa_run.specs.declared.running.Running.{Running}
 use Rattle.wa_run.specs.declared.running.Stop.{Stop}
 
--- the functions that code can call, by the rows of the imports
-abbrev pub callees_of : List CallNo → List Callee
-callees_of [] = []
-callees_of (number ∷ numbers) = callee_of_row (Some number.0) ∷ callees_of numbers
-
 -- each row is one of the table of calls
 abbrev pub AreRows : List CallNo → Type 0
 AreRows [] = Unit {0}
 AreRows (number ∷ numbers) = (number.0 ≤ 64) × AreRows numbers
-
--- what a host makes of calls
-abbrev pub meaning_of : {S : Type 0} → (S → ℕ → List ℕ → List ℕ → ℤ) → (S → ℕ → List ℕ → List ℕ → List ℕ) → (S → ℕ → List ℕ → List ℕ → S) → HostMeaning S
-meaning_of answer memory_after state_after = record { answer = answer; memory_after = memory_after; state_after = state_after }
 
 -- `accept` or `rollback`
 abbrev pub ending_of : Bool → Callee
@@ -56,13 +47,13 @@ Asks S meaning callee function old before new after =
 -- what stays the same in a run over a host of this meaning, in which code calls functions by these rows
 pub record IsIn {S : Type 0} (meaning : HostMeaning S) (calls : List CallNo) (world : World S) : Type 0 where
   pub host_is : world.host ≡ meaning
-  pub calls_are : world.context.calls ≡ callees_of calls
+  pub calls_are : world.context.calls ≡ callees calls
 
 -- the machine meets no fault in some configuration where the run stands
 pub record CanGo (S : Type 0) (ops : List Op) (ends : List ℕ) (calls : List CallNo) (old : Running) : Type 0 where
   pub world : World S
   pub c : Configuration S
-  pub calls_are : world.context.calls ≡ callees_of calls
+  pub calls_are : world.context.calls ≡ callees calls
   pub is : Is ops ends c old
   pub sound : IsNoFault (step world c)
 

@@ -1,9 +1,10 @@
 pub mod Acts
 pub mod Calls
+pub mod Depths
 pub mod Flat
+pub mod Guards
 pub mod Numbers
 pub mod Room
 pub mod Running
 pub mod Runs
 pub mod Starts
-pub mod Samples

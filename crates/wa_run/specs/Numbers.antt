@@ -4,9 +4,9 @@ use Rattle.wa_ops.specs.declared.op.ValueType.{ValueType}
 use Rattle.wa_ops.specs.declared.op.ValueType.TheVariants.{I32, I64}
 use Rattle.wa_ops.specs.Opcodes.{among}
 
--- i32.eqz to i32.ge_u; i32.clz to i32.rotr; i64.extend_i32_s, i64.extend_i32_u
+-- i32.eqz to i32.ge_u; i32.clz to i32.rotr; i64.extend_i32_s, i64.extend_i32_u; i32.extend8_s, i32.extend16_s
 abbrev pub is_narrow : ℕ → Bool
-is_narrow n = among 0x45 0x4F n || among 0x67 0x78 n || n == 0xAC || n == 0xAD
+is_narrow n = among 0x45 0x4F n || among 0x67 0x78 n || n == 0xAC || n == 0xAD || among 0xC0 0xC1 n
 
 -- one or two operands of i32 or of i64
 abbrev pub kinds_of : Bool → Bool → List ValueType

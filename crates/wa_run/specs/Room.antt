@@ -1,5 +1,5 @@
 -- Stacks in memory that is taken once, as contracts see them.
-use Rattle.std.specs.Prelude.{ℕ, List, ◌==◌, count_by}
+use Rattle.std.specs.Prelude.{ℕ, List}
 use Rattle.wa_run.specs.declared.label.Label.{Label}
 
 -- words, the last pushed first, and how many there is room for
@@ -11,12 +11,3 @@ pub record Words : Type 0 where
 pub record Labels : Type 0 where
   pub items : List Label
   pub room : ℕ
-
--- the ids of the guards that were passed, in order, and how many there is room for
-pub record Guards : Type 0 where
-  pub items : List ℕ
-  pub room : ℕ
-
--- how often an id was passed
-abbrev pub passes_of : List ℕ → ℕ → ℕ
-passes_of ids id = count_by (λ passed. passed == id) ids

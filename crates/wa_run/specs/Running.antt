@@ -8,7 +8,7 @@ use Rattle.wa_ops.specs.declared.op.ValueType.{ValueType}
 use Rattle.wa_machine.specs.Machine.{Value, Region, Configuration, World, Step, next, ended, fault, text_of, branch, ticked, step}
 use Rattle.wa_run.specs.Acts.{Holds, IsNoFault}
 use Rattle.wa_run.specs.Flat.{AllMark, IsRooted}
-use Rattle.wa_run.specs.Room.{passes_of}
+use Rattle.wa_run.specs.Guards.{passes_of}
 use Rattle.wa_run.specs.declared.running.Running.{Running}
 use Rattle.wa_run.specs.declared.running.Stop.{Stop}
 use Rattle.wa_run.specs.declared.running.Stop.TheVariants as stop

@@ -3,8 +3,10 @@ use Rattle.std.specs.Prelude.{ℕ, ◌≡◌, ◌+◌, ◌^◌, ◌<◌, ◌≤�
 use Rattle.hk_base.specs.declared.outcome.Outcome.{Outcome}
 use Rattle.wa_ops.specs.declared.call_no.CallNo.{CallNo}
 use Rattle.wa_ops.specs.declared.op.Op.{Op}
+use Rattle.wa_validate.specs.declared.depth.Depth.{Depth}
 use Rattle.wa_machine.specs.Machine.{Configuration, World, HostMeaning, Ends}
 use Rattle.wa_run.specs.Calls.{IsIn}
+use Rattle.wa_run.specs.Depths.{StaysWithin}
 use Rattle.wa_run.specs.Running.{Is, outcome_of}
 use Rattle.wa_run.specs.declared.running.Running.{Running}
 use Rattle.wa_run.specs.declared.runs.Stopped.{Stopped}
@@ -21,8 +23,10 @@ pub record CanEnd {S : Type 0} (meaning : HostMeaning S) (ops : List Op) (ends :
   pub is : Is ops ends c old
   pub ends_so : Ends world steps c outcome last
   pub countable : steps < 2 ^ 64
-  pub words_room : length old.store.words.items + steps ≤ old.store.words.room
-  pub labels_room : length old.labels.items + steps ≤ old.labels.room
+  pub most : Depth
+  pub stays : StaysWithin world most c
+  pub words_room : most.operands < old.store.words.room
+  pub labels_room : most.labels < old.labels.room
   pub guards_room : length old.guards.items + steps ≤ old.guards.room
 
 -- the turns stopped where the machine's run ends, and as it does

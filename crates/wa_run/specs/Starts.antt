@@ -1,31 +1,30 @@
 -- What a run begins with, and what its ending is.
-use Rattle.std.specs.Prelude.{ℕ, ◌≡◌, ◌*◌, ◌^◌, ◌<◌, ◌≤◌, List, [], ◌∷◌, Some, true, false, length, map, replicate, fold}
+use Rattle.std.specs.Prelude.{ℕ, ◌≡◌, ◌^◌, ◌<◌, ◌≤◌, List, [], ◌∷◌, Some, true, length, map, replicate}
 use Rattle.std.specs.Int.{cast_unsigned, w32, w64}
-use Rattle.wa_num.specs.Memory.{written}
-use Rattle.wa_ops.specs.Contexts.{global_types}
-use Rattle.wa_ops.specs.HookRules.{address_of, is_constant_of, is_float, is_one}
+use Rattle.wa_ops.specs.Contexts.{callees}
 use Rattle.wa_ops.specs.declared.modules.ModuleGlobal.{ModuleGlobal}
-use Rattle.wa_ops.specs.declared.modules.Segment.{Segment}
 use Rattle.wa_ops.specs.declared.op.Op.TheVariants as op
 use Rattle.hk_base.specs.declared.outcome.Outcome.{Outcome}
-use Rattle.wa_ops.specs.Bound.{bound, IsGuarded}
+use Rattle.wa_ops.specs.Bound.{bound_at, IsGuarded}
 use Rattle.wa_ops.specs.Ends.{ends_of}
 use Rattle.wa_ops.specs.Sequences.{Sequence, Reads}
 use Rattle.wa_ops.specs.Soundness.{Each, IsSoundOp}
 use Rattle.wa_ops.specs.Typing.{Context, IsTyped}
 use Rattle.wa_ops.specs.declared.call_no.CallNo.{CallNo}
 use Rattle.wa_ops.specs.declared.op.Op.{Op}
-use Rattle.wa_ops.specs.declared.op.ValueType.TheVariants.{I32, I64}
-use Rattle.wa_ops.specs.declared.op.ValueType.{ValueType}
+use Rattle.wa_ops.specs.declared.op.ValueType.TheVariants.{I64}
+use Rattle.wa_validate.specs.Depths.{body_depth}
 use Rattle.wa_machine.specs.Law.{types_of, kinds_of}
-use Rattle.wa_machine.specs.Machine.{Value, word32, value_of, Configuration, World, HostMeaning, start, Ends}
-use Rattle.wa_run.specs.Calls.{AreRows, callees_of}
+use Rattle.wa_machine.specs.Machine.{Value, Configuration, World, HostMeaning, start, Ends}
+use Rattle.wa_machine.specs.Starts.{first_word}
+use Rattle.wa_run.specs.Calls.{AreRows}
 use Rattle.wa_run.specs.Flat.{words_of, AllValues}
+use Rattle.wa_run.specs.Guards.{first_counter}
 use Rattle.wa_run.specs.declared.label.Label.{Label}
 use Rattle.wa_run.specs.declared.label.Place.TheVariants as place
 use Rattle.wa_run.specs.declared.running.Running.{Running}
 
--- a run that hasn't begun: its variables as words, its memory, and how many words, labels and passes of guards there is room for
+-- a run that hasn't begun: its variables as words, its memory, and how many words, labels and counters of guards there is room for
 pub record Ready : Type 0 where
   pub locals : List ℕ
   pub globals : List ℕ
@@ -41,13 +40,13 @@ pub record Function : Type 0 where
   pub locals : List Value
   pub globals : List Value
 
--- the function's flat code, table of ends and rows of calls, which is typed and guarded, and for whose bound there is room
+-- the function's flat code, table of ends and rows of calls, which is typed and guarded, with room for its depth and for the passes of guards within its bound
 pub record CanRun (f : Function) (ops : List Op) (ends : List ℕ) (calls : List CallNo) (ready : Ready) : Type 0 where
   pub reads : Reads ops f.code
   pub counted : length ops < 2 ^ 32
   pub sound : Each IsSoundOp ops
   pub ends_are : ends ≡ ends_of f.code 0 (0 ∷ [])
-  pub calls_are : f.context.calls ≡ callees_of calls
+  pub calls_are : f.context.calls ≡ callees calls
   pub rows : AreRows calls
   pub result : f.context.result ≡ Some I64
   pub locals_typed : types_of f.locals ≡ f.context.locals
@@ -58,10 +57,10 @@ pub record CanRun (f : Function) (ops : List Op) (ends : List ℕ) (calls : List
   pub globals_fit : AllValues f.globals
   pub typed : IsTyped f.context f.code
   pub guarded : IsGuarded f.context.calls f.code
-  pub countable : bound f.code < 2 ^ 64
-  pub words_room : bound f.code ≤ ready.words_room
-  pub labels_room : bound f.code < ready.labels_room
-  pub guards_room : bound f.code ≤ ready.guards_room
+  pub countable : bound_at 1 f.code < 2 ^ 64
+  pub words_room : (body_depth f.context f.code).operands < ready.words_room
+  pub labels_room : (body_depth f.context f.code).labels < ready.labels_room
+  pub guards_room : bound_at 1 f.code < ready.guards_room
 
 abbrev pub world_of : {S : Type 0} → HostMeaning S → Function → World S
 world_of meaning f = record { context = f.context; host = meaning }
@@ -75,7 +74,7 @@ pub record EndsSo {S : Type 0} (meaning : HostMeaning S) (f : Function) (ready :
   pub last : Configuration S
   pub ends_so : Ends (world_of meaning f) count (first_of meaning f ready before) outcome last
   pub host : last.host ≡ after
-  pub within : count ≤ bound f.code
+  pub within : count ≤ bound_at 1 f.code
 
 -- the label of a function's body
 abbrev pub body_label : Label
@@ -86,25 +85,10 @@ pub record IsFresh (running : Running) : Type 0 where
   pub at : running.at ≡ 0
   pub words : running.store.words.items ≡ []
   pub labels : running.labels.items ≡ body_label ∷ []
-  pub guards : running.guards.items ≡ []
+  pub guards : running.guards.items ≡ first_counter ∷ []
   pub memory : length running.store.memory ≤ 1048576
 
--- ---- what a module gives a run
-
--- the number of the constant that an expression begins with
-abbrev pub constant_word : Op → ℕ
-constant_word (op.I32Const n) = cast_unsigned w32 n
-constant_word (op.I64Const n) = cast_unsigned w64 n
-constant_word instruction = 0
-
-abbrev pub first_word : List Op → ℕ
-first_word [] = 0
-first_word (instruction ∷ ops) = constant_word instruction
-
--- the place that an expression begins with
-abbrev pub first_place : List Op → ℕ
-first_place [] = 0
-first_place (instruction ∷ ops) = address_of instruction
+-- ---- the words that variables begin with
 
 -- the argument, and a zero for each other local
 abbrev pub first_locals : ℕ → ℕ → List ℕ
@@ -114,46 +98,8 @@ first_locals argument count = argument ∷ replicate count 0
 abbrev pub first_globals : List ModuleGlobal → List ℕ
 first_globals globals = map (λ global. first_word global.init) globals
 
--- the segments are written in order
-abbrev pub with_segments : List ℕ → List Segment → List ℕ
-with_segments memory segments = fold (λ bytes segment. written bytes (first_place segment.offset) segment.bytes) memory segments
-
-abbrev pub first_memory : ℕ → List Segment → List ℕ
-first_memory pages segments = with_segments (replicate (pages * 65536) 0) segments
-
--- ---- the typed values that a run begins with
-
 -- the constant that an expression begins with is of its width
 abbrev pub HasWidth : List Op → Type 0
 HasWidth (op.I32Const n ∷ ops) = cast_unsigned w32 n < 2 ^ 32
 HasWidth (op.I64Const n ∷ ops) = cast_unsigned w64 n < 2 ^ 64
 HasWidth ops = Unit {0}
-
-abbrev pub zeros : List ValueType → List Value
-zeros [] = []
-zeros (kind ∷ kinds) = value_of kind 0 ∷ zeros kinds
-
--- the argument, and zeros of the other locals' types
-abbrev pub start_locals : ℕ → List ValueType → List Value
-start_locals argument kinds = word32 argument ∷ zeros kinds
-
--- the globals' constants
-abbrev pub start_globals : List ModuleGlobal → List Value
-start_globals [] = []
-start_globals (global ∷ globals) = value_of global.kind (first_word global.init) ∷ start_globals globals
-
--- values of these types, which these words are
-pub record AreValues (values : List Value) (types : List ValueType) (words : List ℕ) : Type 0 where
-  pub types_are : types_of values ≡ types
-  pub words_are : words ≡ words_of values
-  pub fit : AllValues values
-
--- locals that are no floats begin as values of their types
-abbrev pub LocalsBegin : Type 0
-LocalsBegin = (argument : ℕ) (kinds : List ValueType) → argument < 2 ^ 32 → Each (λ kind. is_float kind ≡ false) kinds →
-    AreValues (start_locals argument kinds) (I32 ∷ kinds) (first_locals argument (length kinds))
-
--- globals that begin as one constant of their type do so too
-abbrev pub GlobalsBegin : Type 0
-GlobalsBegin = (globals : List ModuleGlobal) → Each (λ global. is_one (is_constant_of global.kind) global.init ≡ true) globals → Each (λ global. HasWidth global.init) globals →
-    AreValues (start_globals globals) (kinds_of (global_types globals)) (first_globals globals)

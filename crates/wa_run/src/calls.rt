@@ -1,11 +1,12 @@
 //! The calls of imports.
 ghost use Rattle.std.specs.Prelude.{ℕ, List, ◌<◌, ◌≡◌, ◌≤◌, ◌^◌, length, slice_get, Some, IfOk, IsErr, IsFalse, IsTrue, OnOk};
 ghost use Rattle.wa_ops.specs.Callees.{guard, host_call};
-ghost use Rattle.wa_ops.specs.Rows.{row_parameters};
+ghost use Rattle.wa_ops.specs.Rows.{rollback_row, row_parameters};
 ghost use Rattle.wa_ops.specs.declared.op.Op.{Op};
 ghost use Rattle.wa_run.specs.Running.{Widens};
 ghost use Rattle.wa_run.specs.declared.running.Stop.{Stop};
-ghost use Rattle.wa_run.specs.Calls.{AreRows, Asks, CallsIt, CanCall, CanGo, Goes, ending_of, meaning_of};
+ghost use Rattle.wa_machine.specs.Starts.{meaning_of};
+ghost use Rattle.wa_run.specs.Calls.{AreRows, Asks, CallsIt, CanCall, CanGo, Goes, ending_of};
 
 use crate::running::{Message, Running, Stop};
 use wa_num::Host;
@@ -17,6 +18,7 @@ impl Running {
     /// # Errors
     ///
     /// `NoMemory`, only from a host whose calls can want memory. The run is then of no further use.
+    #[inline(always)]
     pub(crate) fn call<H: Host>(
         &mut self,
         calls: &[CallNo],
@@ -47,6 +49,7 @@ impl Running {
     }
 
     /// A call of `_g`.
+    #[inline(always)]
     pub(crate) fn guard<S>(&mut self, function: u32) -> Option<Stop>
         requires meets { CanCall S guard function self.old }
         requires place { self.old.at < 2 ^ 63 }
@@ -57,17 +60,18 @@ impl Running {
     {
         let limit = self.store.words.pop_narrow();
         let id = self.store.words.pop_narrow();
-        let passes = self.guards.passes(id);
-        self.guards.pass(id);
-        if limit as usize <= passes {
-            return Some(Stop::GuardViolated { id, limit });
+        let passes = self.guards.pass(id, limit);
+        if passes {
+            self.store.words.push(1);
+            self.at += 1;
+            None
+        } else {
+            Some(Stop::GuardViolated { id, limit })
         }
-        self.store.words.push(1);
-        self.at += 1;
-        None
     }
 
     /// A call of `accept`, or of `rollback`. With a text outside the memory the run goes on.
+    #[inline(always)]
     pub(crate) fn finish<S>(&mut self, function: u32, accepts: bool) -> Option<Stop>
         requires meets { CanCall S (ending_of accepts) function self.old }
         requires place { self.old.at < 2 ^ 63 }
@@ -93,13 +97,14 @@ impl Running {
     /// # Errors
     ///
     /// `NoMemory`, only from a host whose calls can want memory. The run is then of no further use.
+    #[inline(never)]
     pub(crate) fn ask<H: Host>(
         &mut self,
         function: u32,
         number: CallNo,
         host: &mut H,
     ) -> Result<(), NoMemory>
-        requires first { 3 ≤ number.0 }
+        requires first { rollback_row < number.0 }
         requires last { number.0 ≤ 64 }
         requires meets { CanCall H (host_call number.0 (row_parameters number.0)) function self.old }
         requires place { self.old.at < 2 ^ 63 }

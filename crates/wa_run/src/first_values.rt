@@ -1,7 +1,8 @@
 //! The values that a run begins with.
 ghost use Rattle.std.specs.Prelude.{◌*◌, ◌<◌, ◌≡◌, ◌≤◌, ◌^◌, length, IfOk, OnOk};
 ghost use Rattle.wa_ops.specs.Soundness.{Each};
-ghost use Rattle.wa_run.specs.Starts.{GlobalsBegin, HasWidth, LocalsBegin, constant_word, first_globals, first_locals, first_memory, first_place, first_word};
+ghost use Rattle.wa_machine.specs.Starts.{constant_word, first_memory, first_place, first_word};
+ghost use Rattle.wa_run.specs.Starts.{HasWidth, first_globals, first_locals};
 ghost use Rattle.wa_ops.specs.HookRules.{address_of};
 
 use std::alloc::Global;
@@ -71,9 +72,3 @@ fn first_place(ops: &[Op]) -> u32
         _ => 0,
     }
 }
-
-/// The law that what a run begins with are values of the types of its locals and globals.
-pub fn values_begin()
-    ensures locals { LocalsBegin }
-    ensures globals { GlobalsBegin }
-{}

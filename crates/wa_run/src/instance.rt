@@ -1,10 +1,10 @@
 //! A run of one function of a hook.
 ghost use Rattle.std.specs.Prelude.{◌<◌, ◌≡◌, ◌≤◌, IfOk, IsErr, IsTrue, OnOk};
 ghost use Rattle.wa_machine.specs.Law.{EndsWithin};
-ghost use Rattle.wa_ops.specs.Bound.{bound};
+ghost use Rattle.wa_ops.specs.Bound.{bound_at};
 ghost use Rattle.wa_ops.specs.Soundness.{Each};
-ghost use Rattle.wa_run.specs.Calls.{meaning_of};
-ghost use Rattle.wa_run.specs.Starts.{CanRun, EndsSo, Function, HasWidth, first_globals, first_locals, first_memory, first_of, world_of};
+ghost use Rattle.wa_machine.specs.Starts.{first_memory, meaning_of};
+ghost use Rattle.wa_run.specs.Starts.{CanRun, EndsSo, Function, HasWidth, first_globals, first_locals, first_of, world_of};
 
 use crate::ended::{Ended, outcome};
 use crate::first_values::{first_globals, first_locals, first_memory};
@@ -19,6 +19,7 @@ use std::marker::Model;
 use wa_machine::within_the_bound;
 use wa_num::Host;
 use wa_ops::{CallNo, ModuleGlobal, NoMemory, Op, Segment};
+use wa_validate::Depth;
 
 /// The label of a function's body.
 const BODY: Label = Label {
@@ -55,8 +56,8 @@ impl Model for Instance {
 }
 
 impl Instance {
-    /// Takes all memory of a run of at most `bound` turns: of a function with this argument and so many other locals, over
-    /// the globals of its module and a memory of so many pages with its data.
+    /// Takes all memory of a run of a function with this argument and so many other locals, over the globals of its module
+    /// and a memory of so many pages with its data: for code of this depth, in which guards are passed `bound` times at most.
     pub fn new(
         alloc: Global,
         argument: u32,
@@ -64,6 +65,7 @@ impl Instance {
         globals: &[ModuleGlobal],
         pages: u32,
         segments: &[Segment],
+        depth: Depth,
         bound: u32,
     ) -> Result<Instance, NoMemory>
         requires pages { pages ≤ 16 }
@@ -71,20 +73,19 @@ impl Instance {
         ensures globals { IfOk result (λ instance. instance.globals ≡ first_globals globals.now) }
         ensures width { OnOk result (Each (λ global. HasWidth global.init) globals.now) }
         ensures memory { IfOk result (λ instance. instance.memory ≡ first_memory pages segments.now) }
-        ensures words_room { IfOk result (λ instance. bound ≤ instance.words_room) }
-        ensures labels_room { IfOk result (λ instance. bound < instance.labels_room) }
-        ensures guards_room { IfOk result (λ instance. bound ≤ instance.guards_room) }
+        ensures words_room { IfOk result (λ instance. depth.operands < instance.words_room) }
+        ensures labels_room { IfOk result (λ instance. depth.labels < instance.labels_room) }
+        ensures guards_room { IfOk result (λ instance. bound < instance.guards_room) }
     {
-        let room = bound as usize;
         let store = Store {
-            words: Words::with_room(alloc, room)?,
+            words: Words::with_room(alloc, depth.operands as usize + 1)?,
             locals: first_locals(alloc, argument, locals)?,
             globals: first_globals(alloc, globals)?,
             memory: first_memory(alloc, pages, segments)?,
         };
-        let mut labels = Labels::with_room(alloc, room + 1)?;
+        let mut labels = Labels::with_room(alloc, depth.labels as usize + 1)?;
         labels.open(BODY);
-        let guards = Guards::with_room(alloc, room)?;
+        let guards = Guards::with_room(alloc, bound)?;
         Ok(Instance {
             running: Running {
                 at: 0,
@@ -112,7 +113,7 @@ impl Instance {
         ensures ends { IfOk result (λ ended. (f : Function) → CanRun f ops.now ends.now calls.now self →
             EndsSo (meaning_of H.answer H.memory_after H.state_after) f self host.old ended.count ended.outcome host.new) }
         ensures within { (f : Function) → CanRun f ops.now ends.now calls.now self →
-            EndsWithin (world_of (meaning_of H.answer H.memory_after H.state_after) f) (bound f.code) (first_of (meaning_of H.answer H.memory_after H.state_after) f self host.old) }
+            EndsWithin (world_of (meaning_of H.answer H.memory_after H.state_after) f) (bound_at 1 f.code) (first_of (meaning_of H.answer H.memory_after H.state_after) f self host.old) }
         ensures told { H.may_want host.new ≡ H.may_want host.old }
         ensures wants { IsErr result → IsTrue (H.may_want host.old) }
     {

@@ -9,6 +9,7 @@ use wa_ops::Op;
 
 impl Store {
     /// An instruction on operands, variables and memory alone.
+    #[inline(always)]
     pub(crate) fn act<S>(&mut self, op: &Op) -> Option<Trap>
         requires plain { IsPlain op.now }
         requires sound { IsSoundOp op.now }

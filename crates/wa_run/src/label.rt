@@ -27,6 +27,7 @@ pub(crate) struct Label {
 }
 
 /// Whether a region with this result has one.
+#[inline(always)]
 pub(crate) fn carries(kind: Option<ValueType>) -> bool
     ensures carries { result ≡ has_result kind }
 {

@@ -30,6 +30,7 @@ impl Labels {
         Ok(Labels { labels })
     }
 
+    #[inline(always)]
     pub(crate) fn open(&mut self, label: Label)
         requires room { length self.old.items < self.old.room }
         ensures items { self.new.items ≡ label ∷ self.old.items }
@@ -42,6 +43,7 @@ impl Labels {
     }
 
     /// Closes the innermost region.
+    #[inline(always)]
     pub(crate) fn close(&mut self) -> Label
         requires some { 0 < length self.old.items }
         ensures items { self.old.items ≡ result ∷ self.new.items }
@@ -54,6 +56,7 @@ impl Labels {
     }
 
     /// Closes the `count` innermost regions.
+    #[inline(always)]
     pub(crate) fn unwind(&mut self, count: usize)
         requires some { count ≤ length self.old.items }
         ensures items { self.new.items ≡ drop count self.old.items }

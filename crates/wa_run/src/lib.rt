@@ -2,6 +2,7 @@
 #![tactic(auto)]
 
 mod calls;
+mod counter;
 mod ended;
 mod first_values;
 mod guards;
@@ -14,11 +15,8 @@ mod numbers;
 mod running;
 mod runs;
 mod store;
-#[cfg(test)]
-mod tests;
 mod turns;
 mod words;
 
 pub use ended::Ended;
-pub use first_values::values_begin;
 pub use instance::Instance;

@@ -14,7 +14,34 @@ use wa_ops::Op;
 
 impl Store {
     /// A load; its alignment changes nothing.
+    #[inline(never)]
     pub(crate) fn load<S>(&mut self, opcode: u8, offset: u32) -> Option<Trap>
+        requires sound { IsSoundOp (Op.Load opcode 0 offset) }
+        requires meets { (align : ℕ) × Meets S (Op.Load opcode align offset) self.old }
+        requires room { length self.old.words.items ≤ self.old.words.room }
+        ensures acts { (align : ℕ) → ActsOr S (Op.Load opcode align offset) self.old result self.new }
+        ensures grows { Grows self.old.words self.new.words }
+    {
+        match opcode {
+            0x28 => self.load_of::<S>(0x28, offset),
+            0x29 => self.load_of::<S>(0x29, offset),
+            0x2C => self.load_of::<S>(0x2C, offset),
+            0x2D => self.load_of::<S>(0x2D, offset),
+            0x2E => self.load_of::<S>(0x2E, offset),
+            0x2F => self.load_of::<S>(0x2F, offset),
+            0x30 => self.load_of::<S>(0x30, offset),
+            0x31 => self.load_of::<S>(0x31, offset),
+            0x32 => self.load_of::<S>(0x32, offset),
+            0x33 => self.load_of::<S>(0x33, offset),
+            0x34 => self.load_of::<S>(0x34, offset),
+            0x35 => self.load_of::<S>(0x35, offset),
+            _ => self.load_of::<S>(opcode, offset),
+        }
+    }
+
+    /// A load; where its opcode is a literal, so is its width.
+    #[inline(always)]
+    fn load_of<S>(&mut self, opcode: u8, offset: u32) -> Option<Trap>
         requires sound { IsSoundOp (Op.Load opcode 0 offset) }
         requires meets { (align : ℕ) × Meets S (Op.Load opcode align offset) self.old }
         requires room { length self.old.words.items ≤ self.old.words.room }
@@ -32,7 +59,28 @@ impl Store {
     }
 
     /// A store; its alignment changes nothing.
+    #[inline(never)]
     pub(crate) fn write<S>(&mut self, opcode: u8, offset: u32) -> Option<Trap>
+        requires sound { IsSoundOp (Op.Store opcode 0 offset) }
+        requires meets { (align : ℕ) × Meets S (Op.Store opcode align offset) self.old }
+        ensures acts { (align : ℕ) → ActsOr S (Op.Store opcode align offset) self.old result self.new }
+        ensures grows { Grows self.old.words self.new.words }
+    {
+        match opcode {
+            0x36 => self.write_of::<S>(0x36, offset),
+            0x37 => self.write_of::<S>(0x37, offset),
+            0x3A => self.write_of::<S>(0x3A, offset),
+            0x3B => self.write_of::<S>(0x3B, offset),
+            0x3C => self.write_of::<S>(0x3C, offset),
+            0x3D => self.write_of::<S>(0x3D, offset),
+            0x3E => self.write_of::<S>(0x3E, offset),
+            _ => self.write_of::<S>(opcode, offset),
+        }
+    }
+
+    /// A store; where its opcode is a literal, so is its width.
+    #[inline(always)]
+    fn write_of<S>(&mut self, opcode: u8, offset: u32) -> Option<Trap>
         requires sound { IsSoundOp (Op.Store opcode 0 offset) }
         requires meets { (align : ℕ) × Meets S (Op.Store opcode align offset) self.old }
         ensures acts { (align : ℕ) → ActsOr S (Op.Store opcode align offset) self.old result self.new }
@@ -52,6 +100,7 @@ impl Store {
 }
 
 /// What a load makes of the number in memory: the narrow ones that are signed repeat its sign.
+#[inline(always)]
 fn read_as(opcode: u8, number: u64) -> u64
     requires sound { IsTrue (is_load opcode) }
     requires width { number < 256 ^ load_width opcode }
@@ -69,6 +118,7 @@ fn read_as(opcode: u8, number: u64) -> u64
 }
 
 /// The bytes that a load reads.
+#[inline(always)]
 fn load_width(opcode: u8) -> u32
     ensures width { result ≡ load_width opcode }
 {
@@ -81,6 +131,7 @@ fn load_width(opcode: u8) -> u32
 }
 
 /// The bytes that a store writes.
+#[inline(always)]
 fn store_width(opcode: u8) -> u32
     ensures width { result ≡ store_width opcode }
 {

@@ -42,6 +42,7 @@ pub(crate) struct Running {
 
 impl Running {
     /// Opens a `block`, whose `end` stands at `last`.
+    #[inline(always)]
     pub(crate) fn block<S>(&mut self, carried: Option<ValueType>, last: u32)
         requires place { self.old.at < 2 ^ 63 }
         requires room { length self.old.labels.items < self.old.labels.room }
@@ -58,6 +59,7 @@ impl Running {
     }
 
     /// Opens a `loop`, whose `end` stands at `last`.
+    #[inline(always)]
     pub(crate) fn loop_<S>(&mut self, carried: Option<ValueType>, last: u32)
         requires place { self.old.at < 2 ^ 63 }
         requires room { length self.old.labels.items < self.old.labels.room }
@@ -74,6 +76,7 @@ impl Running {
     }
 
     /// An `if` with this entry of the table of ends; where an `else` stands there, `other` is the place of its `end`.
+    #[inline(never)]
     pub(crate) fn choose<S>(&mut self, carried: Option<ValueType>, entry: u32, other: Option<u32>)
         requires meets { CanTurn S (Op.If carried) self.old }
         requires place { self.old.at < 2 ^ 63 }
@@ -103,6 +106,7 @@ impl Running {
     }
 
     /// At an `end` or an `else`: closes the innermost region, or returns from the body.
+    #[inline(always)]
     pub(crate) fn end<S>(&mut self) -> Option<Stop>
         requires turns { (instruction : Op) × IsMarker instruction × CanTurn S instruction self.old }
         ensures turns { (instruction : Op) → IsMarker instruction → (entry : ℕ) → Turns S instruction entry self.old result self.new }
@@ -117,6 +121,7 @@ impl Running {
     }
 
     /// Leaves the regions inside the one that `label` names, and goes on where that one says.
+    #[inline(always)]
     pub(crate) fn branch<S>(&mut self, label: u32) -> Option<Stop>
         requires branches { CanBranch S label self.old }
         requires words_room { length self.old.store.words.items ≤ self.old.store.words.room }
@@ -143,6 +148,7 @@ impl Running {
     }
 
     /// The instruction `br_if`.
+    #[inline(always)]
     pub(crate) fn branch_if<S>(&mut self, label: u32) -> Option<Stop>
         requires meets { CanTurn S (Op.BrIf label) self.old }
         requires place { self.old.at < 2 ^ 63 }
@@ -160,6 +166,7 @@ impl Running {
     }
 
     /// The instruction `br_table`.
+    #[inline(always)]
     pub(crate) fn branch_table<S>(&mut self, labels: &[u32], last: u32) -> Option<Stop>
         requires meets { CanTurn S (Op.BrTable labels.now last) self.old }
         requires words_room { length self.old.store.words.items ≤ self.old.store.words.room }
@@ -172,6 +179,7 @@ impl Running {
     }
 
     /// The instruction `return`.
+    #[inline(always)]
     pub(crate) fn leave<S>(&self) -> Stop
         requires meets { CanTurn S Op.Return self.now }
         ensures turns { (entry : ℕ) → Turns S Op.Return entry self.now (Some result) self.now }
@@ -181,6 +189,7 @@ impl Running {
 }
 
 /// The label of a `br_table` at this index; past its list the last.
+#[inline(always)]
 fn label_of(labels: &[u32], last: u32, index: u64) -> u32
     ensures label { result ≡ label_at labels.now last index }
 {
@@ -192,6 +201,7 @@ fn label_of(labels: &[u32], last: u32, index: u64) -> u32
 }
 
 /// The place of the `end` of an `if`.
+#[inline(always)]
 fn last_of(entry: u32, other: Option<u32>) -> u32
     ensures none { other ≡ None → result ≡ entry }
     ensures some { (last : ℕ) → other ≡ Some last → result ≡ last }

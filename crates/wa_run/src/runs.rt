@@ -1,7 +1,8 @@
 //! Turns up to the one that stops a run.
 ghost use Rattle.std.specs.Prelude.{◌<◌, ◌≡◌, ◌^◌, length, IfOk, IsErr, IsTrue};
 ghost use Rattle.wa_ops.specs.Soundness.{Each, IsSoundOp};
-ghost use Rattle.wa_run.specs.Calls.{AreRows, meaning_of};
+ghost use Rattle.wa_machine.specs.Starts.{meaning_of};
+ghost use Rattle.wa_run.specs.Calls.{AreRows};
 ghost use Rattle.wa_run.specs.Running.{IsHeld};
 ghost use Rattle.wa_run.specs.Runs.{CanEnd, Stops};
 
@@ -22,6 +23,7 @@ impl Running {
     /// # Errors
     ///
     /// `NoMemory`, only from a host whose calls can want memory. The run is then of no further use.
+    #[inline(never)]
     pub(crate) fn run<H: Host>(
         &mut self,
         ops: &[Op],
@@ -41,10 +43,11 @@ impl Running {
     {
         let mut count = 0;
         loop {
-            count += 1;
             if let Some(stop) = self.turn(ops, ends, calls, host)? {
+                let count = count + 1;
                 return Ok(Stopped { stop, count });
             }
+            count += 1;
         }
     }
 }

@@ -16,6 +16,7 @@ pub(crate) struct Store {
 }
 
 impl Store {
+    #[inline(always)]
     pub(crate) fn constant32<S>(&mut self, number: i32)
         requires room { length self.old.words.items < self.old.words.room }
         ensures acts { Acts S (Op.I32Const number) self.old self.new }
@@ -24,6 +25,7 @@ impl Store {
         self.words.push(u64::from(number.cast_unsigned()));
     }
 
+    #[inline(always)]
     pub(crate) fn constant64<S>(&mut self, number: i64)
         requires room { length self.old.words.items < self.old.words.room }
         ensures acts { Acts S (Op.I64Const number) self.old self.new }
@@ -33,6 +35,7 @@ impl Store {
     }
 
     /// The instruction `drop`.
+    #[inline(always)]
     pub(crate) fn discard<S>(&mut self)
         requires meets { Meets S Op.Drop self.old }
         ensures acts { Acts S Op.Drop self.old self.new }
@@ -41,6 +44,7 @@ impl Store {
         self.words.pop();
     }
 
+    #[inline(always)]
     pub(crate) fn select<S>(&mut self)
         requires meets { Meets S Op.Select self.old }
         requires room { length self.old.words.items ≤ self.old.words.room }
@@ -53,6 +57,7 @@ impl Store {
         self.words.push(chosen(condition, one, other));
     }
 
+    #[inline(always)]
     pub(crate) fn local_get<S>(&mut self, local: u32)
         requires meets { Meets S (Op.LocalGet local) self.old }
         requires room { length self.old.words.items < self.old.words.room }
@@ -62,6 +67,7 @@ impl Store {
         self.words.push(self.locals[local as usize]);
     }
 
+    #[inline(always)]
     pub(crate) fn local_set<S>(&mut self, local: u32)
         requires meets { Meets S (Op.LocalSet local) self.old }
         ensures acts { Acts S (Op.LocalSet local) self.old self.new }
@@ -71,6 +77,7 @@ impl Store {
         put(&mut self.locals, local, word);
     }
 
+    #[inline(always)]
     pub(crate) fn local_tee<S>(&mut self, local: u32)
         requires meets { Meets S (Op.LocalTee local) self.old }
         ensures acts { Acts S (Op.LocalTee local) self.old self.new }
@@ -80,6 +87,7 @@ impl Store {
         put(&mut self.locals, local, word);
     }
 
+    #[inline(always)]
     pub(crate) fn global_get<S>(&mut self, global: u32)
         requires meets { Meets S (Op.GlobalGet global) self.old }
         requires room { length self.old.words.items < self.old.words.room }
@@ -89,6 +97,7 @@ impl Store {
         self.words.push(self.globals[global as usize]);
     }
 
+    #[inline(always)]
     pub(crate) fn global_set<S>(&mut self, global: u32)
         requires meets { Meets S (Op.GlobalSet global) self.old }
         ensures acts { Acts S (Op.GlobalSet global) self.old self.new }
@@ -98,6 +107,7 @@ impl Store {
         put(&mut self.globals, global, word);
     }
 
+    #[inline(always)]
     pub(crate) fn memory_size<S>(&mut self)
         requires room { length self.old.words.items < self.old.words.room }
         ensures acts { Acts S Op.MemorySize self.old self.new }
@@ -108,12 +118,14 @@ impl Store {
 }
 
 /// The operand that `select` leaves.
+#[inline(always)]
 fn chosen(condition: u64, one: u64, other: u64) -> u64
     ensures chosen { result ≡ (if condition == 0 then other else one) }
 {
     if condition == 0 { other } else { one }
 }
 
+#[inline(always)]
 fn put(variables: &mut Vec<u64>, place: u32, word: u64)
     requires place { place < length variables.old.items }
     ensures items { variables.new.items ≡ slice_set variables.old.items place word }

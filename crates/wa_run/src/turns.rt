@@ -2,7 +2,8 @@
 ghost use Rattle.std.specs.Prelude.{ℕ, ◌<◌, ◌≡◌, ◌^◌, length, IfOk, IsErr, IsTrue, OnOk};
 ghost use Rattle.wa_ops.specs.Soundness.{Each, IsSoundOp};
 ghost use Rattle.wa_run.specs.Acts.{IsPlain};
-ghost use Rattle.wa_run.specs.Calls.{AreRows, CanGo, Goes, meaning_of};
+ghost use Rattle.wa_machine.specs.Starts.{meaning_of};
+ghost use Rattle.wa_run.specs.Calls.{AreRows, CanGo, Goes};
 ghost use Rattle.wa_run.specs.Running.{CanTurn, IsArm, Turns, Widens};
 
 use crate::running::{Running, Stop};
@@ -15,6 +16,7 @@ impl Running {
     /// # Errors
     ///
     /// `NoMemory`, only from a host whose calls can want memory. The run is then of no further use.
+    #[inline(always)]
     pub(crate) fn turn<H: Host>(
         &mut self,
         ops: &[Op],
@@ -62,6 +64,7 @@ impl Running {
     }
 
     /// An instruction on operands, variables and memory alone.
+    #[inline(always)]
     pub(crate) fn plain<S>(&mut self, op: &Op) -> Option<Stop>
         requires plain { IsPlain op.now }
         requires sound { IsSoundOp op.now }
@@ -82,6 +85,7 @@ impl Running {
 }
 
 /// Where an `else` stands at this place, the place of its `end`.
+#[inline(always)]
 fn other_arm(ops: &[Op], ends: &[u32], place: u32) -> Option<u32>
     requires paired { length ends.now ≡ length ops.now }
     ensures arm { IsArm ops.now ends.now place result }

@@ -1,5 +1,5 @@
 use Rattle.std.proofs.Common.{◌≡◌, ◌*◌, length, take}
-use Rattle.wa_run.specs.Starts.{first_memory}
+use Rattle.wa_machine.specs.Starts.{first_memory}
 use Rattle.wa_run.proofs.first_values.first_memory.Given as goal
 
 abbrev pub invariant-loop-segment : goal.invariant-loop-segment

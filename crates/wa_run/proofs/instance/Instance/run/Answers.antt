@@ -1,5 +1,5 @@
 use Rattle.std.proofs.Common.{ap, sym, subst}
-use Rattle.wa_run.specs.Calls.{meaning_of}
+use Rattle.wa_machine.specs.Starts.{meaning_of}
 use Rattle.wa_run.specs.Starts.{Ready, EndsSo}
 use Rattle.wa_run.proofs.Starting.{paired, within_law, can_end, ends_as}
 use Rattle.wa_run.proofs.instance.Instance.run.Goals as goal

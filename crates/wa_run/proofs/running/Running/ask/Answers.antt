@@ -1,9 +1,10 @@
-use Rattle.std.proofs.Common.{◌∷◌, length, reverse, take, drop, ◌+◌, rules, refl, ap, arith, ◌∙◌}
+use Rattle.std.proofs.Common.{◌∷◌, length, reverse, take, drop, ◌+◌, rules, refl, sym, ap, subst, arith, ◌∙◌}
 use Rattle.std.proofs.lemmas.Int.{to_z-of_z}
 use Rattle.std.specs.Int.{cast_unsigned, w64}
+use Rattle.wa_ops.specs.Callees.{AreArguments}
 use Rattle.wa_ops.specs.Rows.{row_parameters}
-use Rattle.wa_run.specs.Calls.{meaning_of}
-use Rattle.wa_run.proofs.Calling.{ask_needs, ask_follows}
+use Rattle.wa_machine.specs.Starts.{meaning_of}
+use Rattle.wa_run.proofs.Calling.{ask_needs, ask_fits, ask_follows}
 use Rattle.wa_run.proofs.running.Running.ask.Goals as goal
 
 pub overflow_sub-below : goal.overflow_sub-below
@@ -38,3 +39,9 @@ returns-clause-asks g c =
       locals = refl;
       globals = refl;
     })
+
+pub call-requires-clause-arguments : goal.call-requires-clause-arguments
+call-requires-clause-arguments g c =
+    subst (AreArguments (row_parameters c.args.number.0))
+    (sym (c.last.ensures.words ∙ ap (λ n. reverse (take n c.args.self.now.store.words.items)) (ap length c.call_parameters-count.ensures.parameters)))
+    (ask_fits _ c.args.number.0 (row_parameters c.args.number.0) c.args.function c.args.self.now c.requires.meets)

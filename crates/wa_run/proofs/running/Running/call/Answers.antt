@@ -2,7 +2,7 @@ use Rattle.std.proofs.Common.{◌≤◌, Some, ap, rules}
 use Rattle.wa_ops.specs.Callees.{guard, accept, rollback, host_call}
 use Rattle.wa_ops.specs.Contexts.{callee_of_row}
 use Rattle.wa_ops.specs.Rows.{row_parameters}
-use Rattle.wa_run.specs.Calls.{meaning_of}
+use Rattle.wa_machine.specs.Starts.{meaning_of}
 use Rattle.wa_run.proofs.Calling.{row_at, row_got, row_within, function_within, can_call_row, goes_by, asks_by, host_row}
 use Rattle.wa_run.proofs.running.Running.call.Goals as goal
 

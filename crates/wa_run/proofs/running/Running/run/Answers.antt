@@ -1,14 +1,12 @@
 use Rattle.std.proofs.Common.{Some, None, ◌+◌, refl, arith, ◌∙◌}
-use Rattle.wa_run.specs.Calls.{meaning_of}
-use Rattle.wa_run.proofs.Ending.{begins, can_go, stops_all, stops_held, goes_all, goes_as}
+use Rattle.wa_machine.specs.Starts.{meaning_of}
+use Rattle.wa_run.proofs.Ending.{begins, can_go, has_room, stops_all, stops_held, goes_all, goes_as}
 use Rattle.wa_run.proofs.running.Running.run.Goals as goal
 
 pub loop-stop-init : goal.loop-stop-init
 loop-stop-init g c = record {
   under = begins (meaning_of g.H.Host.answer g.H.Host.memory_after g.H.Host.state_after) c.args.ops.now c.args.ends.now c.args.calls.now c.args.self.now c.args.host.now;
-  words = omega arith;
   words_room = omega arith;
-  labels = omega arith;
   labels_room = omega arith;
   guards = omega arith;
   guards_room = omega arith;
@@ -17,6 +15,16 @@ loop-stop-init g c = record {
 
 pub turn-requires-clause-meets : goal.turn-requires-clause-meets
 turn-requires-clause-meets g c = can_go (meaning_of g.H.Host.answer g.H.Host.memory_after g.H.Host.state_after) c.args.ops.now c.args.ends.now c.args.calls.now c.args.self.now c.args.host.now c.loop-stop.count c.loop-stop.self c.loop-stop.host c.requires.can c.loop-stop.invariant.under
+
+pub turn-requires-clause-words_room : goal.turn-requires-clause-words_room
+turn-requires-clause-words_room g c =
+    let room = has_room (meaning_of g.H.Host.answer g.H.Host.memory_after g.H.Host.state_after) c.args.ops.now c.args.ends.now c.args.calls.now c.args.self.now c.args.host.now c.loop-stop.count c.loop-stop.self c.loop-stop.host c.requires.can c.loop-stop.invariant.under in
+    omega (arith, room.0, c.loop-stop.invariant.words_room)
+
+pub turn-requires-clause-labels_room : goal.turn-requires-clause-labels_room
+turn-requires-clause-labels_room g c =
+    let room = has_room (meaning_of g.H.Host.answer g.H.Host.memory_after g.H.Host.state_after) c.args.ops.now c.args.ends.now c.args.calls.now c.args.self.now c.args.host.now c.loop-stop.count c.loop-stop.self c.loop-stop.host c.requires.can c.loop-stop.invariant.under in
+    omega (arith, room.1, c.loop-stop.invariant.labels_room)
 
 pub returns-in-Some-clause-stops : goal.returns-in-Some-clause-stops
 returns-in-Some-clause-stops g c =
@@ -32,9 +40,7 @@ pub loop-stop-preserved : goal.loop-stop-preserved
 loop-stop-preserved g c = record {
   under = goes_all (meaning_of g.H.Host.answer g.H.Host.memory_after g.H.Host.state_after) c.args.ops.now c.args.ends.now c.args.calls.now c.args.self.now c.args.host.now c.loop-stop.count c.loop-stop.self c.loop-stop.host c.turn.new.self c.turn.new.host c.loop-stop.invariant.under
       (goes_as _ (meaning_of g.H.Host.answer g.H.Host.memory_after g.H.Host.state_after) c.args.calls.now c.args.ops.now c.args.ends.now c.loop-stop.self c.loop-stop.host c.in_ok-stop.field-0 None c.turn.new.self c.turn.new.host c.in_default.is c.in_ok-stop.ensures.goes);
-  words = omega (arith, c.loop-stop.invariant.words, c.in_ok-stop.ensures.grows.words);
   words_room = omega (arith, c.loop-stop.invariant.words_room, c.in_ok-stop.ensures.grows.words_room);
-  labels = omega (arith, c.loop-stop.invariant.labels, c.in_ok-stop.ensures.grows.labels);
   labels_room = omega (arith, c.loop-stop.invariant.labels_room, c.in_ok-stop.ensures.grows.labels_room);
   guards = omega (arith, c.loop-stop.invariant.guards, c.in_ok-stop.ensures.grows.guards);
   guards_room = omega (arith, c.loop-stop.invariant.guards_room, c.in_ok-stop.ensures.grows.guards_room);

@@ -2,7 +2,7 @@ use Rattle.std.proofs.Common.{Some, None, ap, arith, refl, inl, inr, sym, ◌∙
 use Rattle.std.proofs.lemmas.Option.{slice_get-get_or}
 use Rattle.wa_ops.specs.Soundness.{IsSoundOp}
 use Rattle.wa_ops.specs.declared.op.Op.TheVariants as op
-use Rattle.wa_run.specs.Calls.{meaning_of}
+use Rattle.wa_machine.specs.Starts.{meaning_of}
 use Rattle.wa_run.proofs.Branching.{br_follows, br_can}
 use Rattle.wa_run.proofs.Turning.{go_within, each_at, can_turn, goes_entry, goes_turn, goes_choice, plain_otherwise, found_here, if_ok}
 use Rattle.wa_run.proofs.running.Running.turn.Goals as goal
