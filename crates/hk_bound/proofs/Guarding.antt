@@ -14,7 +14,8 @@ use Rattle.wa_ops.specs.HookRules.{in_code, is_constant, is_guard, is_guard_call
 use Rattle.wa_ops.specs.Sequences.{Sequence, done, plain, block, loop, if_then, if_else, flat, Reads, tree_of}
 use Rattle.wa_ops.specs.Typing.{and_then}
 use Rattle.wa_ops.proofs.Parsing.{tree_reads}
-use Rattle.wa_validate.specs.Untyped.{body_of}
+use Rattle.wa_ops.proofs.RulesByName.{rules_by_name}
+use Rattle.wa_ops.specs.Functions.{body_of}
 use Rattle.hk_rules.proofs.Least.{passes_past}
 
 -- the rule at a place, by the places of the guard
@@ -86,4 +87,4 @@ ruled_guarded m func body kept e = at (slice_get m.codes func) refl e
     at (Some code) h k =
         let reads : Reads code.ops body = (tree_reads code.ops body).1 k in
         (guarded (calls_of m.imports) body (End ∷ []) (subst (Kept (calls_of m.imports)) reads.instructions
-        (kept_at (calls_of m.imports) m.codes func code h (kept.1.1.1.1.1.1.1.1.1.1.1.1.1.1.1.1.1.1.1.0)))).0
+        (kept_at (calls_of m.imports) m.codes func code h (rules_by_name m kept).loop_guards))).0

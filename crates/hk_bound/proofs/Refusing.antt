@@ -1,7 +1,11 @@
 -- From the fault of one part of the check to the refusal of the code.
-use Rattle.std.proofs.Common.{ℕ, ◌≡◌, ◌≢◌, ◌<◌, ◌≤◌, suc, zero, List, [], ◌∷◌, ◌∙◌, Option, Some, refl, sym, ap, subst, length}
+use Rattle.std.proofs.Common.{ℕ, ◌≡◌, ◌≢◌, ◌<◌, ◌≤◌, ◌==◌, ◌&&◌, true, false, suc, zero, List, [], ◌∷◌, ◌∙◌, Option, Some, refl, sym, ap, subst, length}
 use Rattle.std.specs.Prelude.{slice_get, Result, Err, IsErrAnd, IfErr}
+use Rattle.std.proofs.lemmas.Bool.{and_parts, eqb-true}
 use Rattle.std.proofs.lemmas.Result.{err_from_is_err_and}
+use Rattle.wa_decode.proofs.ModuleReaders.{one_module}
+use Rattle.wa_decode.specs.Modules.{Spells}
+use Rattle.wa_decode.specs.Versions.{SpellsIn, has_extensions}
 use Rattle.wa_ops.specs.declared.modules.Code.{Code}
 use Rattle.wa_ops.specs.declared.modules.Module.{Module}
 use Rattle.wa_ops.specs.declared.rule_fault.RuleFault.{RuleFault}
@@ -14,22 +18,37 @@ use Rattle.hk_bound.specs.declared.fault.CheckFault.{CheckFault}
 use Rattle.hk_bound.specs.declared.fault.CheckFault.TheVariants as fault
 use Rattle.hk_bound.specs.declared.fault.Export.TheVariants as «export»
 
+-- ---- the version's operators
+
+-- no module is spelled in a version that lacks an operator of the one that the bytes spell
+pub unspelled : (version : ℕ) (code : List ℕ) (m : Module) → Spells m code → ((version == 0) && has_extensions m) ≡ true → (other : Module) → SpellsIn version other code → ⊥
+unspelled version code m spelled new other s =
+    let parts = and_parts (version == 0) (has_extensions m) new in
+    let same : other ≡ m = one_module code other m s.spelled spelled in
+    let e : true ≡ false = sym parts.1 ∙ ap has_extensions (sym same) ∙ s.plain (eqb-true version 0 parts.0) in
+    absurd cc
+
+pub spelled_in : (version : ℕ) (code : List ℕ) (m : Module) → Spells m code → ((version == 0) && has_extensions m) ≡ false → SpellsIn version m code
+spelled_in version code m spelled known = record { spelled = spelled; plain = λ e. subst (λ v. ((v == 0) && has_extensions m) ≡ false) e known }
+
+-- ---- the parts of the check
+
 pub breaks_by : (m : Module) (found : RuleFault) → (found ≢ rule_fault.NoMemory → IsFirst (hook_rules m) found) → BreaksRules m (fault_of found)
 breaks_by m rule_fault.NoMemory first = tt
 breaks_by m found first = first (λ e. cc e)
 
-pub refused_typing : (code : List ℕ) (m : Module) (found : CheckFault) → IsSpelled code m → IsRuled m → FailsTyping m found → IsRefused code found
-refused_typing code m (fault.Untyped func op) spelled ruled fails = record { wasm = m; spelled = spelled; ruled = ruled; untyped = fails }
-refused_typing code m fault.NoMemory spelled ruled fails = tt
-refused_typing code m found spelled ruled fails = absurd fails
+pub refused_typing : (version : ℕ) (code : List ℕ) (m : Module) (found : CheckFault) → IsSpelled version code m → IsRuled m → FailsTyping m found → IsRefused version code found
+refused_typing version code m (fault.Untyped func op) spelled ruled fails = record { wasm = m; spelled = spelled; ruled = ruled; untyped = fails }
+refused_typing version code m fault.NoMemory spelled ruled fails = tt
+refused_typing version code m found spelled ruled fails = absurd fails
 
-pub refused_hook : (code : List ℕ) (m : Module) (found : CheckFault) → IsSpelled code m → IsRuled m → AllTyped m → IsHookFault m found → IsRefused code found
-refused_hook code m (fault.BoundTooLarge «export».Hook n) spelled ruled typed past = record { wasm = m; spelled = spelled; ruled = ruled; typed = typed; past = past }
-refused_hook code m found spelled ruled typed past = absurd past
+pub refused_hook : (version : ℕ) (code : List ℕ) (m : Module) (found : CheckFault) → IsSpelled version code m → IsRuled m → AllTyped m → IsHookFault version m found → IsRefused version code found
+refused_hook version code m (fault.BoundTooLarge «export».Hook n) spelled ruled typed past = record { wasm = m; spelled = spelled; ruled = ruled; typed = typed; past = past }
+refused_hook version code m found spelled ruled typed past = absurd past
 
-pub refused_cbak : (code : List ℕ) (m : Module) (found : CheckFault) → IsSpelled code m → IsRuled m → AllTyped m → IsWithin is_hook m → IsCbakFault m found → IsRefused code found
-refused_cbak code m (fault.BoundTooLarge «export».Cbak n) spelled ruled typed hook past = record { wasm = m; spelled = spelled; ruled = ruled; typed = typed; hook = hook; past = past }
-refused_cbak code m found spelled ruled typed hook past = absurd past
+pub refused_cbak : (version : ℕ) (code : List ℕ) (m : Module) (found : CheckFault) → IsSpelled version code m → IsRuled m → AllTyped m → IsWithin version is_hook m → IsCbakFault version m found → IsRefused version code found
+refused_cbak version code m (fault.BoundTooLarge «export».Cbak n) spelled ruled typed hook past = record { wasm = m; spelled = spelled; ruled = ruled; typed = typed; hook = hook; past = past }
+refused_cbak version code m found spelled ruled typed hook past = absurd past
 
 -- the exit of a `?`
 pub exits_with : {A : Type 0} {Q : CheckFault → Type 0} (P : CheckFault → Type 0) (found : CheckFault) (r : Result A CheckFault)

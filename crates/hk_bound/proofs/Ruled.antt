@@ -16,10 +16,12 @@ use Rattle.wa_ops.specs.declared.op.ValueType.TheVariants.{I32, I64, F32, F64}
 use Rattle.wa_ops.specs.Callees.{takes, gives}
 use Rattle.wa_ops.specs.Contexts.{calls_of, callee_of_row, first_of, function_type, parameters_of, result_of}
 use Rattle.wa_ops.specs.HookRules.{are_types, count_of_kind, has_repeats, is_api_import, is_bad_export, is_cbak, is_entry, is_function_type, is_hook, is_row_item, is_row_type, IsRuled, passes}
+use Rattle.wa_ops.proofs.RowLemmas.{row_gives, row_takes}
+use Rattle.wa_ops.proofs.RulesByName.{rules_by_name}
 use Rattle.wa_ops.specs.Rows.{row_named, row_parameters, row_answer}
 use Rattle.wa_ops.specs.Typing.{and_then, is_same_type}
 use Rattle.wa_validate.specs.Needs.{AllRowTypes, HasRowType, IsTypeOf}
-use Rattle.hk_rules.specs.Guards.{entry_of}
+use Rattle.wa_ops.specs.Functions.{entry_of}
 use Rattle.hk_rules.proofs.Importing.{both_true}
 use Rattle.hk_bound.specs.Laws.{EntryTypes, IsEntryType}
 
@@ -56,27 +58,17 @@ passed {A = A} test xs i e = at (slice_get xs i) refl e
 abbrev pub HasTypeOf : List FuncType → ℕ → Option ℕ → Type 0
 HasTypeOf types index row = (t : FuncType) × (slice_get types index ≡ Some t) × IsTypeOf (callee_of_row row) t
 
-listed : (types : List FuncType) (index row : ℕ) → reverse (row_parameters row) ≡ takes (callee_of_row (Some row)) → row_answer row ≡ gives (callee_of_row (Some row))
-    → is_row_type types index (Some row) ≡ true → HasTypeOf types index (Some row)
-listed types index row parameters answer e =
+listed : (types : List FuncType) (index : ℕ) (row : Option ℕ) → is_row_type types index row ≡ true → HasTypeOf types index row
+listed types index None e = absurd (cc e)
+listed types index (Some row) e =
     let p = passed (is_function_type (row_parameters row) (row_answer row)) types index e in
     let t : FuncType = p.0 in
     let takes_these : t.parameters ≡ row_parameters row = types_same t.parameters (row_parameters row) (and_left (are_types t.parameters (row_parameters row)) (are_types t.results (row_answer row ∷ [])) p.2) in
     let gives_this : t.results ≡ row_answer row ∷ [] = types_same t.results (row_answer row ∷ []) (and_right (are_types t.parameters (row_parameters row)) (are_types t.results (row_answer row ∷ [])) p.2) in
-    (t, p.1, record { parameters = ap reverse takes_these ∙ parameters; results = gives_this ∙ ap (λ a. a ∷ []) answer })
-
-row_listed : (types : List FuncType) (index : ℕ) (name : List ℕ) → is_row_type types index (row_named name) ≡ true → HasTypeOf types index (row_named name)
-row_listed types index name = first (bytes_eq name (codes "_g")) (bytes_eq name (codes "accept")) (bytes_eq name (codes "rollback"))
-  where
-    first : (a b c : Bool) → is_row_type types index (if a then Some 0 else if b then Some 1 else if c then Some 2 else None) ≡ true
-        → HasTypeOf types index (if a then Some 0 else if b then Some 1 else if c then Some 2 else None)
-    first true b c e = listed types index 0 refl refl e
-    first false true c e = listed types index 1 refl refl e
-    first false false true e = listed types index 2 refl refl e
-    first false false false e = absurd (cc e)
+    (t, p.1, record { parameters = ap reverse takes_these ∙ sym (row_takes row); results = gives_this ∙ ap (λ a. a ∷ []) (sym (row_gives row)) })
 
 row_type : (types : List FuncType) (name : List ℕ) (item : ImportItem) → is_row_item types (row_named name) item ≡ true → HasRowType types name item
-row_type types name (Function index) e = row_listed types index name e
+row_type types name (Function index) e = listed types index (row_named name) e
 row_type types name (Table limits) e = absurd (cc e)
 row_type types name (Memory limits) e = absurd (cc e)
 row_type types name (Global kind mutable) e = absurd (cc e)
@@ -89,7 +81,7 @@ row_types types (import ∷ imports) kept = (
 )
 
 pub ruled_imports : (m : Module) → IsRuled m → AllRowTypes m.types m.imports
-ruled_imports m kept = row_types m.types m.imports (λ j. kept.1.1.1.1.0 j 0)
+ruled_imports m kept = row_types m.types m.imports (rules_by_name m kept).imports
 
 -- ---- exports
 
@@ -160,7 +152,7 @@ or_true_right false b e = e
 no_bad : (m : Module) → IsRuled m → list_any (is_bad_export (length (calls_of m.imports)) m) m.exports ≡ false
 no_bad m kept =
     or_right (not (list_any is_hook m.exports)) (list_any (is_bad_export (length (calls_of m.imports)) m) m.exports)
-    (or_right (has_repeats m.exports) (not (list_any is_hook m.exports) || list_any (is_bad_export (length (calls_of m.imports)) m) m.exports) (kept.1.1.1.1.1.1.1.1.1.1.0 0 0))
+    (or_right (has_repeats m.exports) (not (list_any is_hook m.exports) || list_any (is_bad_export (length (calls_of m.imports)) m) m.exports) (rules_by_name m kept).exports)
 
 entry_named : (m : Module) (is_named : ModuleExport → Bool) (func : ℕ) → ((x : ModuleExport) → is_named x ≡ true → (is_hook x || is_cbak x) ≡ true) → IsRuled m
     → entry_of (length (calls_of m.imports)) is_named m.exports ≡ Some func → IsEntryType m func

@@ -7,7 +7,7 @@ use Rattle.std.proofs.Math.Seq.{drop-cons}
 use Rattle.std.proofs.Math.ListN.{drop_of_length-le}
 use Rattle.wa_ops.specs.declared.op.Op.{Op}
 use Rattle.wa_ops.specs.declared.op.Op.TheVariants.{Block, Loop, If, Else, End, I32Const}
-use Rattle.wa_ops.specs.Bound.{LoopCost, loop_cost, loops, nodes, own, turns, last_pass, bound}
+use Rattle.wa_ops.specs.Bound.{LoopCost, cost, loop_cost, loops, own, turns, last_pass, bound_at}
 use Rattle.wa_ops.specs.Sequences.{Sequence, done, plain, block, loop, if_then, if_else, nesting, stands, IsTree, flat, Reads, IsNested, tree_of}
 use Rattle.wa_ops.specs.Ends.{behind}
 use Rattle.wa_ops.specs.declared.modules.Code.{Code}
@@ -80,65 +80,64 @@ spread_three t a b c = omega arith
 spread_own : (t a : ℕ) → t * (a + 1) ≡ t * a + t
 spread_own t a = omega arith
 
-cost_own : (body : Sequence) → (loop_cost body).cost ≡ own body
-cost_own (plain (I32Const id) (plain (I32Const limit) rest)) = refl
+cost_own : (body : Sequence) → (loop_cost 0 body).cost ≡ own 0 body
 cost_own body = refl
 
 stands_counted : (op : Op) (times : ℕ) → nesting op ≡ stands → counted op times ≡ times
 stands_counted Else times e = absurd (cc e)
 stands_counted op times e = refl
 
-pub total_flat : (all : List LoopGuard) (code : Sequence) (around : Option ℕ) (count : ℕ) (after : List Op) (marks : List (Option ℕ)) → IsTree code → Stand all count (loops code)
-    → total all (flat code after) (innermost around count code marks) ≡ weight all around * nodes code + turns (loops code) + total all after marks
+pub total_flat : (all : List LoopGuard) (code : Sequence) (around : Option ℕ) (count : ℕ) (after : List Op) (marks : List (Option ℕ)) → IsTree code → Stand all count (loops 0 code)
+    → total all (flat code after) (innermost around count code marks) ≡ weight all around * cost 0 code + turns (loops 0 code) + total all after marks
 total_flat all done around count after marks tree s = omega arith
 total_flat all (plain op rest) around count after marks tree s =
-    omega (arith, stands_counted op (weight all around) tree.0, total_flat all rest around count after marks tree.1 s, spread_node (weight all around) (nodes rest))
+    omega (arith, stands_counted op (weight all around) tree.0, total_flat all rest around count after marks tree.1 s, spread_node (weight all around) (cost 0 rest))
 total_flat all (block result body rest) around count after marks tree s =
     omega (
       arith,
-      spread_region (weight all around) (nodes body) (nodes rest),
-      turns_both (loops body) (loops rest),
-      total_flat all body around count (End ∷ flat rest after) (around ∷ innermost around (count + length (loops body)) rest marks) tree.0 (stand_left all count (loops body) (loops rest) s),
-      total_flat all rest around (count + length (loops body)) after marks tree.1 (stand_right all count (loops body) (loops rest) s),
+      spread_region (weight all around) (cost 0 body) (cost 0 rest),
+      turns_both (loops 0 body) (loops 0 rest),
+      total_flat all body around count (End ∷ flat rest after) (around ∷ innermost around (count + length (loops 0 body)) rest marks) tree.0 (stand_left all count (loops 0 body) (loops 0 rest) s),
+      total_flat all rest around (count + length (loops 0 body)) after marks tree.1 (stand_right all count (loops 0 body) (loops 0 rest) s),
     )
 total_flat all (loop result body rest) around count after marks tree s =
-    let inside : Stand all (count + 1) (loops body ++ loops rest) = stand_tail all count (loop_cost body) (loops body ++ loops rest) s in
-    let limit : weight all (Some count) ≡ (loop_cost body).limit = stand_weight all count (loop_cost body) (loops body ++ loops rest) s in
+    let inside : Stand all (count + 1) (loops 0 body ++ loops 0 rest) = stand_tail all count (loop_cost 0 body) (loops 0 body ++ loops 0 rest) s in
+    let limit : weight all (Some count) ≡ (loop_cost 0 body).limit = stand_weight all count (loop_cost 0 body) (loops 0 body ++ loops 0 rest) s in
     omega (
       arith,
-      spread_node (weight all around) (nodes rest),
-      turns_both (loops body) (loops rest),
+      spread_node (weight all around) (cost 0 rest),
+      turns_both (loops 0 body) (loops 0 rest),
       limit,
-      ap (λ n. n * nodes body) limit,
-      ap (λ n. (loop_cost body).limit * n) (cost_own body),
-      spread_own (loop_cost body).limit (nodes body),
-      total_flat all body (Some count) (count + 1) (End ∷ flat rest after) (Some count ∷ innermost around (count + 1 + length (loops body)) rest marks) tree.0
-          (stand_left all (count + 1) (loops body) (loops rest) inside),
-      total_flat all rest around (count + 1 + length (loops body)) after marks tree.1 (stand_right all (count + 1) (loops body) (loops rest) inside),
+      ap (λ n. n * cost 0 body) limit,
+      ap (λ n. (loop_cost 0 body).limit * n) (cost_own body),
+      spread_own (loop_cost 0 body).limit (cost 0 body),
+      total_flat all body (Some count) (count + 1) (End ∷ flat rest after) (Some count ∷ innermost around (count + 1 + length (loops 0 body)) rest marks) tree.0
+          (stand_left all (count + 1) (loops 0 body) (loops 0 rest) inside),
+      total_flat all rest around (count + 1 + length (loops 0 body)) after marks tree.1 (stand_right all (count + 1) (loops 0 body) (loops 0 rest) inside),
     )
 total_flat all (if_then result body rest) around count after marks tree s =
     omega (
       arith,
-      spread_region (weight all around) (nodes body) (nodes rest),
-      turns_both (loops body) (loops rest),
-      total_flat all body around count (End ∷ flat rest after) (around ∷ innermost around (count + length (loops body)) rest marks) tree.0 (stand_left all count (loops body) (loops rest) s),
-      total_flat all rest around (count + length (loops body)) after marks tree.1 (stand_right all count (loops body) (loops rest) s),
+      spread_region (weight all around) (cost 0 body) (cost 0 rest),
+      turns_both (loops 0 body) (loops 0 rest),
+      total_flat all body around count (End ∷ flat rest after) (around ∷ innermost around (count + length (loops 0 body)) rest marks) tree.0 (stand_left all count (loops 0 body) (loops 0 rest) s),
+      total_flat all rest around (count + length (loops 0 body)) after marks tree.1 (stand_right all count (loops 0 body) (loops 0 rest) s),
     )
 total_flat all (if_else result first second rest) around count after marks tree s =
-    let arms : Stand all count (loops first ++ loops second) = stand_left all count (loops first ++ loops second) (loops rest) s in
-    let behind_arms : Stand all (count + length (loops first ++ loops second)) (loops rest) = stand_right all count (loops first ++ loops second) (loops rest) s in
-    let n : count + length (loops first ++ loops second) ≡ count + length (loops first) + length (loops second) = omega (arith, length-append (loops first) (loops second)) in
+    let arms : Stand all count (loops 0 first ++ loops 0 second) = stand_left all count (loops 0 first ++ loops 0 second) (loops 0 rest) s in
+    let behind_arms : Stand all (count + length (loops 0 first ++ loops 0 second)) (loops 0 rest) = stand_right all count (loops 0 first ++ loops 0 second) (loops 0 rest) s in
+    let n : count + length (loops 0 first ++ loops 0 second) ≡ count + length (loops 0 first) + length (loops 0 second) = omega (arith, length-append (loops 0 first) (loops 0 second)) in
     omega (
       arith,
-      spread_three (weight all around) (nodes first) (nodes second) (nodes rest),
-      turns_both (loops first) (loops second),
-      turns_both (loops first ++ loops second) (loops rest),
+      spread_three (weight all around) (cost 0 first) (cost 0 second) (cost 0 rest),
+      turns_both (loops 0 first) (loops 0 second),
+      turns_both (loops 0 first ++ loops 0 second) (loops 0 rest),
       total_flat all first around count (Else ∷ flat second (End ∷ flat rest after))
-          (around ∷ innermost around (count + length (loops first)) second (around ∷ innermost around (count + length (loops first) + length (loops second)) rest marks)) tree.0
-          (stand_left all count (loops first) (loops second) arms),
-      total_flat all second around (count + length (loops first)) (End ∷ flat rest after)
-          (around ∷ innermost around (count + length (loops first) + length (loops second)) rest marks) tree.1 (stand_right all count (loops first) (loops second) arms),
-      total_flat all rest around (count + length (loops first) + length (loops second)) after marks tree.2 (subst (λ k. Stand all k (loops rest)) n behind_arms),
+          (around ∷ innermost around (count + length (loops 0 first)) second (around ∷ innermost around (count + length (loops 0 first) + length (loops 0 second)) rest marks)) tree.0
+          (stand_left all count (loops 0 first) (loops 0 second) arms),
+      total_flat all second around (count + length (loops 0 first)) (End ∷ flat rest after)
+          (around ∷ innermost around (count + length (loops 0 first) + length (loops 0 second)) rest marks) tree.1 (stand_right all count (loops 0 first) (loops 0 second) arms),
+      total_flat all rest around (count + length (loops 0 first) + length (loops 0 second)) after marks tree.2 (subst (λ k. Stand all k (loops 0 rest)) n behind_arms),
     )
 
 -- ---- a whole body
@@ -152,12 +151,12 @@ cost_limits costs = map (λ l. l.limit) costs
 both_limits : (a b : List LoopGuard) (x y : List LoopCost) → guard_limits a ≡ cost_limits x → guard_limits b ≡ cost_limits y → guard_limits (a ++ b) ≡ cost_limits (x ++ y)
 both_limits a b x y e f = map-append (λ g. g.limit) a b ∙ ap₂ (λ xs ys. xs ++ ys) e f ∙ sym (map-append (λ l. l.limit) x y)
 
-pub same_limits : (code : Sequence) (at : ℕ) → guard_limits (loop_guards code at) ≡ cost_limits (loops code)
+pub same_limits : (code : Sequence) (at : ℕ) → guard_limits (loop_guards code at) ≡ cost_limits (loops 0 code)
 same_limits done at = refl
 same_limits (plain op rest) at = same_limits rest (at + 1)
 same_limits (block result body rest) at = both_limits _ _ _ _ (same_limits body (at + 1)) (same_limits rest (behind body (at + 1) + 1))
 same_limits (loop result body rest) at =
-    ap (λ xs. (loop_cost body).limit ∷ xs) (both_limits _ _ _ _ (same_limits body (at + 1)) (same_limits rest (behind body (at + 1) + 1)))
+    ap (λ xs. (loop_cost 0 body).limit ∷ xs) (both_limits _ _ _ _ (same_limits body (at + 1)) (same_limits rest (behind body (at + 1) + 1)))
 same_limits (if_then result body rest) at = both_limits _ _ _ _ (same_limits body (at + 1)) (same_limits rest (behind body (at + 1) + 1))
 same_limits (if_else result first second rest) at =
     both_limits _ _ _ _ (both_limits _ _ _ _ (same_limits first (at + 1)) (same_limits second (behind first (at + 1) + 1)))
@@ -168,11 +167,11 @@ get_mapped f [] i = refl
 get_mapped f (x ∷ xs) zero = refl
 get_mapped f (x ∷ xs) (suc i) = get_mapped f xs i
 
-pub all_stand : (code : Sequence) (at : ℕ) → Stand (loop_guards code at) 0 (loops code)
+pub all_stand : (code : Sequence) (at : ℕ) → Stand (loop_guards code at) 0 (loops 0 code)
 all_stand code at i h =
     let e : 0 + i ≡ i = omega arith in
     ap (λ n. option_map (λ g. g.limit) (slice_get (loop_guards code at) n)) e
-    ∙ sym (get_mapped (λ g. g.limit) (loop_guards code at) i) ∙ ap (λ xs. slice_get xs i) (same_limits code at) ∙ get_mapped (λ l. l.limit) (loops code) i
+    ∙ sym (get_mapped (λ g. g.limit) (loop_guards code at) i) ∙ ap (λ xs. slice_get xs i) (same_limits code at) ∙ get_mapped (λ l. l.limit) (loops 0 code) i
 
 same_last : (guards : List LoopGuard) (costs : List LoopCost) → guard_limits guards ≡ cost_limits costs → last_turns guards ≡ last_pass costs
 same_last [] [] e = refl
@@ -180,13 +179,13 @@ same_last (guard ∷ guards) (cost ∷ costs) e = refl
 same_last [] (cost ∷ costs) e = absurd (cc e)
 same_last (guard ∷ guards) [] e = absurd (cc e)
 
-pub body_bound : (ops : List Op) (body : Sequence) → Reads ops body → total (loop_guards body 0) ops (innermost None 0 body (None ∷ [])) + last_turns (loop_guards body 0) ≡ bound body
+pub body_bound : (ops : List Op) (body : Sequence) → Reads ops body → total (loop_guards body 0) ops (innermost None 0 body (None ∷ [])) + last_turns (loop_guards body 0) ≡ bound_at 0 body
 body_bound ops body reads =
     omega (
       arith,
       ap (λ os. total (loop_guards body 0) os (innermost None 0 body (None ∷ []))) reads.instructions,
       total_flat (loop_guards body 0) body None 0 (End ∷ []) (None ∷ []) reads.tree (all_stand body 0),
-      same_last (loop_guards body 0) (loops body) (same_limits body 0),
+      same_last (loop_guards body 0) (loops 0 body) (same_limits body 0),
     )
 
 -- ---- the loop over the instructions
@@ -252,24 +251,3 @@ guards_at functions codes i guards code e f g =
   where
     same : (x y : Option FunctionGuards) → Some x ≡ Some y → x ≡ y
     same x y h = cc h
-
-pub whole_bound : (m : Module) (guards : Guards) (func n : ℕ) (code : Code) (found : FunctionGuards) (codes : List Code) (functions : List FunctionGuards) (ops : List Op)
-    → IsSound m → map (λ g. Some g) guards.functions ≡ code_guards m.codes → func < length m.codes
-    → codes ≡ m.codes → code ≡ get_or codes func code → functions ≡ guards.functions → found ≡ get_or functions func found → ops ≡ code.ops
-    → n ≡ total found.loops ops found.innermost + last_turns found.loops → bound_of m func ≡ Some n
-whole_bound m guards func n code found codes functions ops sound kept less same_codes is_code same_functions is_found same_ops e =
-    let many : length codes ≡ length m.codes = ap length same_codes in
-    let each : length functions ≡ length m.codes = ap length same_functions ∙ same_number guards.functions m.codes kept in
-    let at_code : slice_get m.codes func ≡ Some code =
-    ap (λ xs. slice_get xs func) (sym same_codes) ∙ slice_get_read codes (length codes) func code refl (omega (arith, less, many)) is_code in
-    let at_guards : slice_get guards.functions func ≡ Some found =
-    ap (λ xs. slice_get xs func) (sym same_functions) ∙ slice_get_read functions (length functions) func found refl (omega (arith, less, each)) is_found in
-    let nested : IsNested code.ops =
-    (each_at IsSoundBody codes func code (omega (arith, less, many)) is_code (subst (Each IsSoundBody) (sym same_codes) sound.codes.each)).ops.nested in
-    let tree : tree_of code.ops ≡ Some nested.0 = found_tree code.ops nested.0 nested.1 in
-    let same : found ≡ body_guards nested.0 = some_is found (body_guards nested.0) (guards_at guards.functions m.codes func found code kept at_guards at_code ∙ ap (option_map body_guards) tree) in
-    let is : n ≡ bound nested.0 = e ∙ ap₂ (λ g os. total g.loops os g.innermost + last_turns g.loops) same same_ops ∙ body_bound code.ops nested.0 nested.1 in
-    ap (λ o. option_map bound (and_then o (λ c. tree_of c.ops))) at_code ∙ ap (option_map bound) tree ∙ ap Some (sym is)
-  where
-    some_is : (x y : FunctionGuards) → Some x ≡ Some y → x ≡ y
-    some_is x y h = cc h

@@ -10,9 +10,10 @@ use Rattle.wa_ops.specs.Contexts.{context_of}
 use Rattle.wa_ops.specs.HookRules.{Rule, IsLeast, IsFirst, AreKept, IsRuled, hook_rules, is_hook, is_cbak}
 use Rattle.wa_ops.specs.Sequences.{Sequence, size}
 use Rattle.wa_ops.specs.Typing.{Typing, leaves, fails, fresh, types, after_region, Leaves}
-use Rattle.wa_validate.specs.Untyped.{IsUntyped, IsTypedAt, body_of, body_typing}
+use Rattle.wa_validate.specs.Untyped.{IsUntyped, IsTypedAt, body_typing}
+use Rattle.wa_ops.specs.Functions.{body_of}
 use Rattle.hk_bound.specs.Bounds.{export_bound}
-use Rattle.hk_bound.specs.Checks.{most, IsSpelled, AllTyped, IsWithin, IsPast, IsHook, Held, Holds, IsRefused}
+use Rattle.hk_bound.specs.Checks.{longest, IsSpelled, AllTyped, IsWithin, IsPast, IsHook, Held, Holds, IsRefused}
 use Rattle.hk_bound.specs.Laws.{OneRefusal, OneVerdict}
 use Rattle.hk_bound.specs.declared.fault.CheckFault.{CheckFault}
 use Rattle.hk_bound.specs.declared.fault.CheckFault.TheVariants as fault
@@ -92,108 +93,108 @@ one_untyped m f p g q x y (inr (inl same)) = (
 
 -- ---- bounds
 
-one_past : (is_named : ModuleExport → Bool) (m : Module) (n k : ℕ) → IsPast is_named m n → IsPast is_named m k → n ≡ k
-one_past is_named m n k x y = let e : Some n ≡ Some k = sym x.bound ∙ y.bound in cc
+one_past : (version : ℕ) (is_named : ModuleExport → Bool) (m : Module) (n k : ℕ) → IsPast version is_named m n → IsPast version is_named m k → n ≡ k
+one_past version is_named m n k x y = let e : Some n ≡ Some k = sym x.bound ∙ y.bound in cc
 
-past_or_within : (is_named : ModuleExport → Bool) (m : Module) (n : ℕ) → IsPast is_named m n → IsWithin is_named m → ⊥
-past_or_within is_named m n x within = let fits = within n x.bound in let large = x.large in omega (arith, fits, large)
+past_or_within : (version : ℕ) (is_named : ModuleExport → Bool) (m : Module) (n : ℕ) → IsPast version is_named m n → IsWithin version is_named m → ⊥
+past_or_within version is_named m n x within = let fits = within n x.bound in let large = x.large in omega (arith, fits, large)
 
 -- ---- accepted or refused
 
-module_at : (code : List ℕ) (a b : Module) → IsSpelled code a → IsSpelled code b → a ≡ b
-module_at code a b x y = one_module code a b x.spelled y.spelled
+module_at : (version : ℕ) (code : List ℕ) (a b : Module) → IsSpelled version code a → IsSpelled version code b → a ≡ b
+module_at version code a b x y = one_module code a b x.spelled.spelled y.spelled.spelled
 
 pub one_verdict : OneVerdict
-one_verdict code m fault.TooLong apart x y = let short = x.spelled.short in omega (arith, short, y)
-one_verdict code m fault.Malformed apart x y = y.1 m x.spelled.spelled
-one_verdict code m (fault.Rule found) apart x y =
-    kept_or_first (hook_rules y.wasm) found (subst IsRuled (module_at code m y.wasm x.spelled y.spelled) x.ruled) y.first
-one_verdict code m (fault.Untyped func op) apart x y =
-    untyped_here y.wasm func op y.untyped (subst AllTyped (module_at code m y.wasm x.spelled y.spelled) x.typed func)
-one_verdict code m (fault.BoundTooLarge «export».Hook n) apart x y =
-    past_or_within is_hook y.wasm n y.past (subst (IsWithin is_hook) (module_at code m y.wasm x.spelled y.spelled) x.hook)
-one_verdict code m (fault.BoundTooLarge «export».Cbak n) apart x y =
-    past_or_within is_cbak y.wasm n y.past (subst (IsWithin is_cbak) (module_at code m y.wasm x.spelled y.spelled) x.cbak)
-one_verdict code m fault.NoMemory apart x y = apart refl
+one_verdict version code m fault.TooLong apart x y = let short = x.spelled.short in omega (arith, short, y)
+one_verdict version code m fault.Malformed apart x y = y.1 m x.spelled.spelled
+one_verdict version code m (fault.Rule found) apart x y =
+    kept_or_first (hook_rules y.wasm) found (subst IsRuled (module_at version code m y.wasm x.spelled y.spelled) x.ruled) y.first
+one_verdict version code m (fault.Untyped func op) apart x y =
+    untyped_here y.wasm func op y.untyped (subst AllTyped (module_at version code m y.wasm x.spelled y.spelled) x.typed func)
+one_verdict version code m (fault.BoundTooLarge «export».Hook n) apart x y =
+    past_or_within version is_hook y.wasm n y.past (subst (IsWithin version is_hook) (module_at version code m y.wasm x.spelled y.spelled) x.hook)
+one_verdict version code m (fault.BoundTooLarge «export».Cbak n) apart x y =
+    past_or_within version is_cbak y.wasm n y.past (subst (IsWithin version is_cbak) (module_at version code m y.wasm x.spelled y.spelled) x.cbak)
+one_verdict version code m fault.NoMemory apart x y = apart refl
 
-pub holds_or_refused : (code : List ℕ) (held : Held) (found : CheckFault) → Holds code held → IsRefused code found → found ≢ fault.NoMemory → ⊥
-holds_or_refused code held found x y apart = one_verdict code held.wasm found apart x.hook y
+pub holds_or_refused : (version : ℕ) (code : List ℕ) (held : Held) (found : CheckFault) → Holds version code held → IsRefused version code found → found ≢ fault.NoMemory → ⊥
+holds_or_refused version code held found x y apart = one_verdict version code held.wasm found apart x.hook y
 
 -- ---- one refusal; the earlier of two excludes the later
 
 -- refusals that say what the code has: a module, rules, typing
-short_rule : (code : List ℕ) (found : CheckFault) → IsRefused code found → found ≢ fault.NoMemory → found ≢ fault.TooLong → length code ≤ most
-short_rule code fault.TooLong y apart other = absurd (other refl)
-short_rule code fault.Malformed y apart other = y.0
-short_rule code (fault.Rule found) y apart other = y.spelled.short
-short_rule code (fault.Untyped func op) y apart other = y.spelled.short
-short_rule code (fault.BoundTooLarge «export».Hook n) y apart other = y.spelled.short
-short_rule code (fault.BoundTooLarge «export».Cbak n) y apart other = y.spelled.short
-short_rule code fault.NoMemory y apart other = absurd (apart refl)
+short_rule : (version : ℕ) (code : List ℕ) (found : CheckFault) → IsRefused version code found → found ≢ fault.NoMemory → found ≢ fault.TooLong → length code ≤ longest
+short_rule version code fault.TooLong y apart other = absurd (other refl)
+short_rule version code fault.Malformed y apart other = y.0
+short_rule version code (fault.Rule found) y apart other = y.spelled.short
+short_rule version code (fault.Untyped func op) y apart other = y.spelled.short
+short_rule version code (fault.BoundTooLarge «export».Hook n) y apart other = y.spelled.short
+short_rule version code (fault.BoundTooLarge «export».Cbak n) y apart other = y.spelled.short
+short_rule version code fault.NoMemory y apart other = absurd (apart refl)
 
-too_long_first : (code : List ℕ) (found : CheckFault) → most < length code → IsRefused code found → found ≢ fault.NoMemory → found ≢ fault.TooLong → ⊥
-too_long_first code found long y apart other = let short = short_rule code found y apart other in omega (arith, long, short)
+too_long_first : (version : ℕ) (code : List ℕ) (found : CheckFault) → longest < length code → IsRefused version code found → found ≢ fault.NoMemory → found ≢ fault.TooLong → ⊥
+too_long_first version code found long y apart other = let short = short_rule version code found y apart other in omega (arith, long, short)
 
 pub one_refusal : OneRefusal
-one_refusal code fault.NoMemory b x y p q = absurd (p refl)
-one_refusal code a fault.NoMemory x y p q = absurd (q refl)
-one_refusal code fault.TooLong fault.TooLong x y p q = refl
-one_refusal code fault.TooLong b x y p q = absurd (too_long_first code b x y q (λ e. cc))
-one_refusal code a fault.TooLong x y p q = absurd (too_long_first code a y x p (λ e. cc))
-one_refusal code fault.Malformed fault.Malformed x y p q = refl
-one_refusal code fault.Malformed (fault.Rule found) x y p q = absurd (x.1 y.wasm y.spelled.spelled)
-one_refusal code fault.Malformed (fault.Untyped func op) x y p q = absurd (x.1 y.wasm y.spelled.spelled)
-one_refusal code fault.Malformed (fault.BoundTooLarge «export».Hook n) x y p q = absurd (x.1 y.wasm y.spelled.spelled)
-one_refusal code fault.Malformed (fault.BoundTooLarge «export».Cbak n) x y p q = absurd (x.1 y.wasm y.spelled.spelled)
-one_refusal code (fault.Rule found) fault.Malformed x y p q = absurd (y.1 x.wasm x.spelled.spelled)
-one_refusal code (fault.Untyped func op) fault.Malformed x y p q = absurd (y.1 x.wasm x.spelled.spelled)
-one_refusal code (fault.BoundTooLarge «export».Hook n) fault.Malformed x y p q = absurd (y.1 x.wasm x.spelled.spelled)
-one_refusal code (fault.BoundTooLarge «export».Cbak n) fault.Malformed x y p q = absurd (y.1 x.wasm x.spelled.spelled)
-one_refusal code (fault.Rule a) (fault.Rule b) x y p q =
-    ap (λ found. fault.Rule found) (one_first (hook_rules y.wasm) a b (subst (λ m. IsFirst (hook_rules m) a) (module_at code x.wasm y.wasm x.spelled y.spelled) x.first) y.first)
-one_refusal code (fault.Rule a) (fault.Untyped func op) x y p q =
-    absurd (kept_or_first (hook_rules x.wasm) a (subst IsRuled (module_at code y.wasm x.wasm y.spelled x.spelled) y.ruled) x.first)
-one_refusal code (fault.Rule a) (fault.BoundTooLarge «export».Hook n) x y p q =
-    absurd (kept_or_first (hook_rules x.wasm) a (subst IsRuled (module_at code y.wasm x.wasm y.spelled x.spelled) y.ruled) x.first)
-one_refusal code (fault.Rule a) (fault.BoundTooLarge «export».Cbak n) x y p q =
-    absurd (kept_or_first (hook_rules x.wasm) a (subst IsRuled (module_at code y.wasm x.wasm y.spelled x.spelled) y.ruled) x.first)
-one_refusal code (fault.Untyped func op) (fault.Rule b) x y p q =
-    absurd (kept_or_first (hook_rules y.wasm) b (subst IsRuled (module_at code x.wasm y.wasm x.spelled y.spelled) x.ruled) y.first)
-one_refusal code (fault.BoundTooLarge «export».Hook n) (fault.Rule b) x y p q =
-    absurd (kept_or_first (hook_rules y.wasm) b (subst IsRuled (module_at code x.wasm y.wasm x.spelled y.spelled) x.ruled) y.first)
-one_refusal code (fault.BoundTooLarge «export».Cbak n) (fault.Rule b) x y p q =
-    absurd (kept_or_first (hook_rules y.wasm) b (subst IsRuled (module_at code x.wasm y.wasm x.spelled y.spelled) x.ruled) y.first)
-one_refusal code (fault.Untyped f i) (fault.Untyped g j) x y p q =
-    let same = one_untyped y.wasm f i g j (subst (λ m. IsUntyped m f i) (module_at code x.wasm y.wasm x.spelled y.spelled) x.untyped) y.untyped (order f g) in
+one_refusal version code fault.NoMemory b x y p q = absurd (p refl)
+one_refusal version code a fault.NoMemory x y p q = absurd (q refl)
+one_refusal version code fault.TooLong fault.TooLong x y p q = refl
+one_refusal version code fault.TooLong b x y p q = absurd (too_long_first version code b x y q (λ e. cc))
+one_refusal version code a fault.TooLong x y p q = absurd (too_long_first version code a y x p (λ e. cc))
+one_refusal version code fault.Malformed fault.Malformed x y p q = refl
+one_refusal version code fault.Malformed (fault.Rule found) x y p q = absurd (x.1 y.wasm y.spelled.spelled)
+one_refusal version code fault.Malformed (fault.Untyped func op) x y p q = absurd (x.1 y.wasm y.spelled.spelled)
+one_refusal version code fault.Malformed (fault.BoundTooLarge «export».Hook n) x y p q = absurd (x.1 y.wasm y.spelled.spelled)
+one_refusal version code fault.Malformed (fault.BoundTooLarge «export».Cbak n) x y p q = absurd (x.1 y.wasm y.spelled.spelled)
+one_refusal version code (fault.Rule found) fault.Malformed x y p q = absurd (y.1 x.wasm x.spelled.spelled)
+one_refusal version code (fault.Untyped func op) fault.Malformed x y p q = absurd (y.1 x.wasm x.spelled.spelled)
+one_refusal version code (fault.BoundTooLarge «export».Hook n) fault.Malformed x y p q = absurd (y.1 x.wasm x.spelled.spelled)
+one_refusal version code (fault.BoundTooLarge «export».Cbak n) fault.Malformed x y p q = absurd (y.1 x.wasm x.spelled.spelled)
+one_refusal version code (fault.Rule a) (fault.Rule b) x y p q =
+    ap (λ found. fault.Rule found) (one_first (hook_rules y.wasm) a b (subst (λ m. IsFirst (hook_rules m) a) (module_at version code x.wasm y.wasm x.spelled y.spelled) x.first) y.first)
+one_refusal version code (fault.Rule a) (fault.Untyped func op) x y p q =
+    absurd (kept_or_first (hook_rules x.wasm) a (subst IsRuled (module_at version code y.wasm x.wasm y.spelled x.spelled) y.ruled) x.first)
+one_refusal version code (fault.Rule a) (fault.BoundTooLarge «export».Hook n) x y p q =
+    absurd (kept_or_first (hook_rules x.wasm) a (subst IsRuled (module_at version code y.wasm x.wasm y.spelled x.spelled) y.ruled) x.first)
+one_refusal version code (fault.Rule a) (fault.BoundTooLarge «export».Cbak n) x y p q =
+    absurd (kept_or_first (hook_rules x.wasm) a (subst IsRuled (module_at version code y.wasm x.wasm y.spelled x.spelled) y.ruled) x.first)
+one_refusal version code (fault.Untyped func op) (fault.Rule b) x y p q =
+    absurd (kept_or_first (hook_rules y.wasm) b (subst IsRuled (module_at version code x.wasm y.wasm x.spelled y.spelled) x.ruled) y.first)
+one_refusal version code (fault.BoundTooLarge «export».Hook n) (fault.Rule b) x y p q =
+    absurd (kept_or_first (hook_rules y.wasm) b (subst IsRuled (module_at version code x.wasm y.wasm x.spelled y.spelled) x.ruled) y.first)
+one_refusal version code (fault.BoundTooLarge «export».Cbak n) (fault.Rule b) x y p q =
+    absurd (kept_or_first (hook_rules y.wasm) b (subst IsRuled (module_at version code x.wasm y.wasm x.spelled y.spelled) x.ruled) y.first)
+one_refusal version code (fault.Untyped f i) (fault.Untyped g j) x y p q =
+    let same = one_untyped y.wasm f i g j (subst (λ m. IsUntyped m f i) (module_at version code x.wasm y.wasm x.spelled y.spelled) x.untyped) y.untyped (order f g) in
     ap (λ func. fault.Untyped func i) same.0 ∙ ap (λ op. fault.Untyped g op) same.1
-one_refusal code (fault.Untyped f i) (fault.BoundTooLarge «export».Hook n) x y p q =
-    absurd (untyped_here x.wasm f i x.untyped (subst AllTyped (module_at code y.wasm x.wasm y.spelled x.spelled) y.typed f))
-one_refusal code (fault.Untyped f i) (fault.BoundTooLarge «export».Cbak n) x y p q =
-    absurd (untyped_here x.wasm f i x.untyped (subst AllTyped (module_at code y.wasm x.wasm y.spelled x.spelled) y.typed f))
-one_refusal code (fault.BoundTooLarge «export».Hook n) (fault.Untyped f i) x y p q =
-    absurd (untyped_here y.wasm f i y.untyped (subst AllTyped (module_at code x.wasm y.wasm x.spelled y.spelled) x.typed f))
-one_refusal code (fault.BoundTooLarge «export».Cbak n) (fault.Untyped f i) x y p q =
-    absurd (untyped_here y.wasm f i y.untyped (subst AllTyped (module_at code x.wasm y.wasm x.spelled y.spelled) x.typed f))
-one_refusal code (fault.BoundTooLarge «export».Hook n) (fault.BoundTooLarge «export».Hook k) x y p q =
-    ap (λ bound. fault.BoundTooLarge «export».Hook bound) (one_past is_hook y.wasm n k (subst (λ m. IsPast is_hook m n) (module_at code x.wasm y.wasm x.spelled y.spelled) x.past) y.past)
-one_refusal code (fault.BoundTooLarge «export».Cbak n) (fault.BoundTooLarge «export».Cbak k) x y p q =
-    ap (λ bound. fault.BoundTooLarge «export».Cbak bound) (one_past is_cbak y.wasm n k (subst (λ m. IsPast is_cbak m n) (module_at code x.wasm y.wasm x.spelled y.spelled) x.past) y.past)
-one_refusal code (fault.BoundTooLarge «export».Hook n) (fault.BoundTooLarge «export».Cbak k) x y p q =
-    absurd (past_or_within is_hook x.wasm n x.past (subst (IsWithin is_hook) (module_at code y.wasm x.wasm y.spelled x.spelled) y.hook))
-one_refusal code (fault.BoundTooLarge «export».Cbak n) (fault.BoundTooLarge «export».Hook k) x y p q =
-    absurd (past_or_within is_hook y.wasm k y.past (subst (IsWithin is_hook) (module_at code x.wasm y.wasm x.spelled y.spelled) x.hook))
+one_refusal version code (fault.Untyped f i) (fault.BoundTooLarge «export».Hook n) x y p q =
+    absurd (untyped_here x.wasm f i x.untyped (subst AllTyped (module_at version code y.wasm x.wasm y.spelled x.spelled) y.typed f))
+one_refusal version code (fault.Untyped f i) (fault.BoundTooLarge «export».Cbak n) x y p q =
+    absurd (untyped_here x.wasm f i x.untyped (subst AllTyped (module_at version code y.wasm x.wasm y.spelled x.spelled) y.typed f))
+one_refusal version code (fault.BoundTooLarge «export».Hook n) (fault.Untyped f i) x y p q =
+    absurd (untyped_here y.wasm f i y.untyped (subst AllTyped (module_at version code x.wasm y.wasm x.spelled y.spelled) x.typed f))
+one_refusal version code (fault.BoundTooLarge «export».Cbak n) (fault.Untyped f i) x y p q =
+    absurd (untyped_here y.wasm f i y.untyped (subst AllTyped (module_at version code x.wasm y.wasm x.spelled y.spelled) x.typed f))
+one_refusal version code (fault.BoundTooLarge «export».Hook n) (fault.BoundTooLarge «export».Hook k) x y p q =
+    ap (λ bound. fault.BoundTooLarge «export».Hook bound) (one_past version is_hook y.wasm n k (subst (λ m. IsPast version is_hook m n) (module_at version code x.wasm y.wasm x.spelled y.spelled) x.past) y.past)
+one_refusal version code (fault.BoundTooLarge «export».Cbak n) (fault.BoundTooLarge «export».Cbak k) x y p q =
+    ap (λ bound. fault.BoundTooLarge «export».Cbak bound) (one_past version is_cbak y.wasm n k (subst (λ m. IsPast version is_cbak m n) (module_at version code x.wasm y.wasm x.spelled y.spelled) x.past) y.past)
+one_refusal version code (fault.BoundTooLarge «export».Hook n) (fault.BoundTooLarge «export».Cbak k) x y p q =
+    absurd (past_or_within version is_hook x.wasm n x.past (subst (IsWithin version is_hook) (module_at version code y.wasm x.wasm y.spelled x.spelled) y.hook))
+one_refusal version code (fault.BoundTooLarge «export».Cbak n) (fault.BoundTooLarge «export».Hook k) x y p q =
+    absurd (past_or_within version is_hook y.wasm k y.past (subst (IsWithin version is_hook) (module_at version code x.wasm y.wasm x.spelled y.spelled) x.hook))
 
 -- ---- what is held of an accepted code
 
-pub one_module_held : (code : List ℕ) (a b : Held) → Holds code a → Holds code b → a.wasm ≡ b.wasm
-one_module_held code a b x y = module_at code a.wasm b.wasm x.hook.spelled y.hook.spelled
+pub one_module_held : (version : ℕ) (code : List ℕ) (a b : Held) → Holds version code a → Holds version code b → a.wasm ≡ b.wasm
+one_module_held version code a b x y = module_at version code a.wasm b.wasm x.hook.spelled y.hook.spelled
 
-pub one_hash : (code : List ℕ) (a b : Held) → Holds code a → Holds code b → a.hash ≡ b.hash
-one_hash code a b x y = x.hash ∙ sym y.hash
+pub one_hash : (version : ℕ) (code : List ℕ) (a b : Held) → Holds version code a → Holds version code b → a.hash ≡ b.hash
+one_hash version code a b x y = x.hash ∙ sym y.hash
 
-pub one_hook_bound : (code : List ℕ) (a b : Held) → Holds code a → Holds code b → a.bound_hook ≡ b.bound_hook
-one_hook_bound code a b x y =
-    let e : Some a.bound_hook ≡ Some b.bound_hook = sym x.bound_hook ∙ ap (export_bound is_hook) (one_module_held code a b x y) ∙ y.bound_hook in cc
+pub one_hook_bound : (version : ℕ) (code : List ℕ) (a b : Held) → Holds version code a → Holds version code b → a.bound_hook ≡ b.bound_hook
+one_hook_bound version code a b x y =
+    let e : Some a.bound_hook ≡ Some b.bound_hook = sym x.bound_hook ∙ ap (export_bound version is_hook) (one_module_held version code a b x y) ∙ y.bound_hook in cc
 
-pub one_cbak_bound : (code : List ℕ) (a b : Held) → Holds code a → Holds code b → a.bound_cbak ≡ b.bound_cbak
-one_cbak_bound code a b x y = sym x.bound_cbak ∙ ap (export_bound is_cbak) (one_module_held code a b x y) ∙ y.bound_cbak
+pub one_cbak_bound : (version : ℕ) (code : List ℕ) (a b : Held) → Holds version code a → Holds version code b → a.bound_cbak ≡ b.bound_cbak
+one_cbak_bound version code a b x y = sym x.bound_cbak ∙ ap (export_bound version is_cbak) (one_module_held version code a b x y) ∙ y.bound_cbak

@@ -6,8 +6,7 @@ use Rattle.wa_ops.specs.Bound.{IsGuarded}
 use Rattle.wa_ops.specs.Contexts.{calls_of, function_type, parameters_of, result_of}
 use Rattle.wa_ops.specs.HookRules.{IsRuled, is_cbak, is_hook}
 use Rattle.wa_ops.specs.Sequences.{Sequence}
-use Rattle.wa_validate.specs.Untyped.{body_of}
-use Rattle.hk_rules.specs.Guards.{entry_of}
+use Rattle.wa_ops.specs.Functions.{body_of, entry_of}
 use Rattle.hk_bound.specs.Checks.{IsHook, IsRefused}
 use Rattle.hk_bound.specs.declared.fault.CheckFault.{CheckFault}
 use Rattle.hk_bound.specs.declared.fault.CheckFault.TheVariants as fault
@@ -28,10 +27,11 @@ EntryTypes = (m : Module) (func : ℕ) → IsRuled m
     → (entry_of (length (calls_of m.imports)) is_hook m.exports ≡ Some func) ⊎ (entry_of (length (calls_of m.imports)) is_cbak m.exports ≡ Some func)
     → IsEntryType m func
 
--- no accepted code is refused
+-- no code that is accepted in a version is refused in it
 abbrev pub OneVerdict : Type 0
-OneVerdict = (code : List ℕ) (m : Module) (found : CheckFault) → found ≢ fault.NoMemory → IsHook code m → IsRefused code found → ⊥
+OneVerdict = (version : ℕ) (code : List ℕ) (m : Module) (found : CheckFault) → found ≢ fault.NoMemory → IsHook version code m → IsRefused version code found → ⊥
 
--- a refused code is refused in one way
+-- a code that is refused in a version is refused in one way
 abbrev pub OneRefusal : Type 0
-OneRefusal = (code : List ℕ) (first second : CheckFault) → IsRefused code first → IsRefused code second → first ≢ fault.NoMemory → second ≢ fault.NoMemory → first ≡ second
+OneRefusal = (version : ℕ) (code : List ℕ) (first second : CheckFault) → IsRefused version code first → IsRefused version code second
+    → first ≢ fault.NoMemory → second ≢ fault.NoMemory → first ≡ second

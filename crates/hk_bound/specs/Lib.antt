@@ -1,4 +1,5 @@
 pub mod Bounds
 pub mod Checks
+pub mod Entries
 pub mod Laws
 pub mod Weights

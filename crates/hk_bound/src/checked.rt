@@ -1,21 +1,27 @@
-ghost use Rattle.hk_bound.specs.Checks.{IsHeld};
-ghost use Rattle.std.specs.Prelude.{◌≡◌};
+ghost use Rattle.hk_bound.specs.Checks.{IsHeld, entry_in};
+ghost use Rattle.std.specs.Prelude.{◌≡◌, option_map};
 
+use crate::entries::Entry;
+use crate::fault::Export;
 use hk_base::Hash256;
 use hk_rules::Guards;
 use std::marker::Model;
 use wa_ops::Module;
 use wa_validate::Typed;
 
-/// A hook's code that was checked: its module, which is spelled, ruled, typed and bounded, its guards, depths, hash and bounds.
+/// A hook's code that was checked: its version and its module, which is spelled, ruled, typed and bounded, its guards, depths, hash
+/// and bounds, and what runs of its exports need.
 #[derive(Debug, Drop)]
 pub struct Checked {
+    pub(crate) version: u16,
     pub(crate) module: Module,
     pub(crate) guards: Guards,
     pub(crate) typed: Typed,
     pub(crate) hash: Hash256,
     pub(crate) bound_hook: u64,
     pub(crate) bound_cbak: Option<u64>,
+    pub(crate) hook_entry: Entry,
+    pub(crate) cbak_entry: Option<Entry>,
 }
 
 impl Model for Checked {
@@ -23,12 +29,31 @@ impl Model for Checked {
 
     ghost Value = { Held };
 
-    ghost view = { λ c. record { wasm = c.«module»; guards = c.guards; typed = c.typed; hash = c.hash; bound_hook = c.bound_hook; bound_cbak = c.bound_cbak } };
+    ghost view = { λ c. record { version = c.version; wasm = c.«module»; guards = c.guards; typed = c.typed; hash = c.hash; bound_hook = c.bound_hook; bound_cbak = c.bound_cbak; hook_entry = c.hook_entry; cbak_entry = c.cbak_entry } };
 
-    ghost invariant = { λ c. IsHeld (record { wasm = c.«module»; guards = c.guards; typed = c.typed; hash = c.hash; bound_hook = c.bound_hook; bound_cbak = c.bound_cbak }) };
+    ghost invariant = { λ c. IsHeld (record { version = c.version; wasm = c.«module»; guards = c.guards; typed = c.typed; hash = c.hash; bound_hook = c.bound_hook; bound_cbak = c.bound_cbak; hook_entry = c.hook_entry; cbak_entry = c.cbak_entry }) };
 }
 
 impl Checked {
+    /// The version of the machine, 0 or 1, in which the code was checked.
+    pub fn version(&self) -> u16
+        ensures version { result ≡ self.now.version }
+        ensures held { IsHeld self.now }
+    {
+        self.version
+    }
+
+    /// What runs of an export need, where there is such an export.
+    pub fn entry(&self, which: Export) -> Option<&Entry>
+        ensures entry { option_map (λ entry. entry.now) result ≡ entry_in which self.now }
+        ensures held { IsHeld self.now }
+    {
+        match which {
+            Export::Hook => Some(&self.hook_entry),
+            Export::Cbak => self.cbak_entry.as_ref(),
+        }
+    }
+
     /// The greatest number of turns that a run of `hook` takes.
     pub fn bound_hook(&self) -> u64
         ensures bound { result ≡ self.now.bound_hook }
@@ -45,7 +70,7 @@ impl Checked {
         self.bound_cbak
     }
 
-    /// The first half of the code's SHA-512.
+    /// The first half of the SHA-512 of the code, in version 1 of the bytes 00 01 and the code.
     pub fn hash(&self) -> Hash256
         ensures hash { result ≡ self.now.hash }
         ensures held { IsHeld self.now }

@@ -4,15 +4,14 @@
 mod bounding;
 mod checked;
 mod checking;
+mod entries;
 mod fault;
 mod laws;
 mod weighing;
 
-pub use bounding::bound;
+pub use bounding::{bound, bound_at};
 pub use checked::Checked;
-pub use checking::check;
+pub use checking::{check, check_at};
+pub use entries::Entry;
 pub use fault::{CheckFault, Export};
 pub use laws::{entry_types, guarded_loops, one_refusal, one_verdict};
-
-#[cfg(test)]
-mod tests;

@@ -1,6 +1,6 @@
-ghost use Rattle.hk_bound.specs.Weights.{counted, inner_of, last_turns, total, weight};
+ghost use Rattle.hk_bound.specs.Weights.{counted, inner_of, last_turns, savings, spared_by, total, weighed, weight, whole};
 ghost use Rattle.std.specs.Option.{option_map_or};
-ghost use Rattle.std.specs.Prelude.{◌≡◌, ◌+◌, ◌*◌, ◌<◌, ◌≤◌, ◌^◌, slice_get};
+ghost use Rattle.std.specs.Prelude.{◌≡◌, ◌+◌, ◌*◌, ◌<◌, ◌≤◌, ◌^◌, Some, length, slice_get};
 ghost use Rattle.wa_ops.specs.Soundness.{IsCounted};
 
 use hk_rules::{FunctionGuards, LoopGuard};
@@ -69,11 +69,64 @@ fn last_turns(loops: &[LoopGuard]) -> u64
     }
 }
 
-/// The bound of a function with these instructions and loops.
-pub(crate) fn weigh(ops: &[Op], guards: &FunctionGuards) -> u64
+/// What version 1 spares at an instruction that belongs to this loop and whose cheaper arm costs so much.
+fn spared_at(loops: &[LoopGuard], inner: Option<u32>, cost: u32) -> u64
+    requires small { weight loops.now inner * cost < 2 ^ 64 }
+    ensures spared { result ≡ weight loops.now inner * cost }
+{
+    u64::from(weight(loops, inner)) * u64::from(cost)
+}
+
+/// The entry of the instruction at this place.
+fn cost_at(spared: &[u32], place: usize) -> u32
+    requires place { place < length spared.now }
+    ensures cost { slice_get spared.now place ≡ Some result }
+{
+    spared[place]
+}
+
+/// What version 1 spares: the sum over all instructions.
+fn savings(loops: &[LoopGuard], innermost: &[Option<u32>], spared: &[u32]) -> u64
+    requires small { savings loops.now innermost.now spared.now < 2 ^ 64 }
+    ensures savings { result ≡ savings loops.now innermost.now spared.now }
+{
+    let mut sum = 0;
+    for place in 0..spared.len() {
+        let cost = cost_at(spared, place);
+        sum += spared_at(loops, inner_at(innermost, place), cost);
+    }
+    sum
+}
+
+/// What all instructions add, and the last pass.
+fn whole(ops: &[Op], guards: &FunctionGuards) -> u64
     requires counted { IsCounted ops.now }
-    ensures bound { result ≡ total guards.now.loops ops.now guards.now.innermost + last_turns guards.now.loops }
+    ensures whole { result ≡ whole ops.now guards.now }
 {
     let loops = guards.loops.as_slice();
     total(ops, loops, guards.innermost.as_slice()) + last_turns(loops)
+}
+
+fn spared_by(guards: &FunctionGuards) -> u64
+    requires small { spared_by guards.now < 2 ^ 64 }
+    ensures savings { result ≡ spared_by guards.now }
+{
+    savings(
+        guards.loops.as_slice(),
+        guards.innermost.as_slice(),
+        guards.spared.as_slice(),
+    )
+}
+
+/// The bound of a function with these instructions and loops.
+pub(crate) fn weigh(ops: &[Op], guards: &FunctionGuards, version: u16) -> u64
+    requires counted { IsCounted ops.now }
+    requires spares { spared_by guards.now ≤ whole ops.now guards.now }
+    ensures bound { result ≡ weighed version ops.now guards.now }
+{
+    let whole = whole(ops, guards);
+    if version == 0 {
+        return whole;
+    }
+    whole - spared_by(guards)
 }

@@ -3,7 +3,7 @@ use Rattle.std.proofs.Common.{ℕ, ◌≡◌, ◌-◌, ◌||◌, List, [], ◌�
 use Rattle.std.specs.List.{list_any}
 use Rattle.std.specs.Prelude.{find, if◌then◌else◌, option_map, unwrap_or}
 use Rattle.wa_ops.specs.declared.modules.ModuleExport.{ModuleExport}
-use Rattle.hk_rules.specs.Guards.{entry_of}
+use Rattle.wa_ops.specs.Functions.{entry_of}
 
 -- the number that is kept is that of the export
 pub entry_kept : (imported : ℕ) (is_named : ModuleExport → Bool) (exports : List ModuleExport) → list_any is_named exports ≡ true

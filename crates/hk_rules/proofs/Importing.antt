@@ -11,7 +11,8 @@ use Rattle.wa_ops.specs.Callees.{Callee}
 use Rattle.wa_ops.specs.Contexts.{callee_of_row, called, calls_of}
 use Rattle.wa_ops.specs.HookRules.{passes, is_row_item, is_api_import, import_rules, IsFirst}
 use Rattle.wa_ops.specs.Rows.{row_named}
-use Rattle.hk_rules.specs.Imports.{callees, rows_named, found_rows, AreRows, IsRowOf}
+use Rattle.hk_rules.specs.Imports.{rows_named, found_rows, AreRows, IsRowOf}
+use Rattle.wa_ops.specs.Contexts.{callees}
 use Rattle.wa_ops.specs.declared.rule_fault.RuleFault.TheVariants as fault
 use Rattle.hk_rules.proofs.Least.{passes_at, passes_past, item_found}
 use Rattle.std.proofs.Math.Seq.{drop-cons}

@@ -6,3 +6,4 @@ pub mod Repeats
 pub mod RowsOfCalls
 pub mod Types
 pub mod Whole
+pub mod CheaperArms

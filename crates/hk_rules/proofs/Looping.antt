@@ -70,34 +70,34 @@ abbrev pub opened : Option ℕ → List (Option ℕ) → ℕ → Open
 opened inner around count = record { inner = inner; around = around; count = count }
 
 pub marks_flat : (code : Sequence) (inner : Option ℕ) (around : List (Option ℕ)) (count : ℕ) (after : List Op) → IsTree code
-    → marks (flat code after) (opened inner around count) ≡ innermost inner count code (marks after (opened inner around (count + length (loops code))))
+    → marks (flat code after) (opened inner around count) ≡ innermost inner count code (marks after (opened inner around (count + length (loops 0 code))))
 marks_flat done inner around count after tree =
     let e : count ≡ count + 0 = omega arith in ap (λ n. marks after (opened inner around n)) e
 marks_flat (plain op rest) inner around count after tree =
     ap (λ n. inner ∷ marks (flat rest after) (passed n (opened inner around count))) tree.0
     ∙ ap (λ xs. inner ∷ xs) (marks_flat rest inner around count after tree.1)
 marks_flat (block result body rest) inner around count after tree =
-    let n : count + length (loops body) + length (loops rest) ≡ count + length (loops body ++ loops rest) = omega (arith, length-append (loops body) (loops rest)) in
+    let n : count + length (loops 0 body) + length (loops 0 rest) ≡ count + length (loops 0 body ++ loops 0 rest) = omega (arith, length-append (loops 0 body) (loops 0 rest)) in
     ap (λ xs. inner ∷ xs) (marks_flat body inner (inner ∷ around) count (End ∷ flat rest after) tree.0)
-    ∙ ap (λ xs. inner ∷ innermost inner count body (inner ∷ xs)) (marks_flat rest inner around (count + length (loops body)) after tree.1
-    ∙ ap (λ k. innermost inner (count + length (loops body)) rest (marks after (opened inner around k))) n)
+    ∙ ap (λ xs. inner ∷ innermost inner count body (inner ∷ xs)) (marks_flat rest inner around (count + length (loops 0 body)) after tree.1
+    ∙ ap (λ k. innermost inner (count + length (loops 0 body)) rest (marks after (opened inner around k))) n)
 marks_flat (loop result body rest) inner around count after tree =
-    let n : count + 1 + length (loops body) + length (loops rest) ≡ count + suc (length (loops body ++ loops rest)) = omega (arith, length-append (loops body) (loops rest)) in
+    let n : count + 1 + length (loops 0 body) + length (loops 0 rest) ≡ count + suc (length (loops 0 body ++ loops 0 rest)) = omega (arith, length-append (loops 0 body) (loops 0 rest)) in
     ap (λ xs. inner ∷ xs) (marks_flat body (Some count) (inner ∷ around) (count + 1) (End ∷ flat rest after) tree.0)
-    ∙ ap (λ xs. inner ∷ innermost (Some count) (count + 1) body (Some count ∷ xs)) (marks_flat rest inner around (count + 1 + length (loops body)) after tree.1
-    ∙ ap (λ k. innermost inner (count + 1 + length (loops body)) rest (marks after (opened inner around k))) n)
+    ∙ ap (λ xs. inner ∷ innermost (Some count) (count + 1) body (Some count ∷ xs)) (marks_flat rest inner around (count + 1 + length (loops 0 body)) after tree.1
+    ∙ ap (λ k. innermost inner (count + 1 + length (loops 0 body)) rest (marks after (opened inner around k))) n)
 marks_flat (if_then result body rest) inner around count after tree =
-    let n : count + length (loops body) + length (loops rest) ≡ count + length (loops body ++ loops rest) = omega (arith, length-append (loops body) (loops rest)) in
+    let n : count + length (loops 0 body) + length (loops 0 rest) ≡ count + length (loops 0 body ++ loops 0 rest) = omega (arith, length-append (loops 0 body) (loops 0 rest)) in
     ap (λ xs. inner ∷ xs) (marks_flat body inner (inner ∷ around) count (End ∷ flat rest after) tree.0)
-    ∙ ap (λ xs. inner ∷ innermost inner count body (inner ∷ xs)) (marks_flat rest inner around (count + length (loops body)) after tree.1
-    ∙ ap (λ k. innermost inner (count + length (loops body)) rest (marks after (opened inner around k))) n)
+    ∙ ap (λ xs. inner ∷ innermost inner count body (inner ∷ xs)) (marks_flat rest inner around (count + length (loops 0 body)) after tree.1
+    ∙ ap (λ k. innermost inner (count + length (loops 0 body)) rest (marks after (opened inner around k))) n)
 marks_flat (if_else result first second rest) inner around count after tree =
-    let n : count + length (loops first) + length (loops second) + length (loops rest) ≡ count + length (loops first ++ loops second ++ loops rest) =
-    omega (arith, length-append (loops first) (loops second), length-append (loops first ++ loops second) (loops rest)) in
+    let n : count + length (loops 0 first) + length (loops 0 second) + length (loops 0 rest) ≡ count + length (loops 0 first ++ loops 0 second ++ loops 0 rest) =
+    omega (arith, length-append (loops 0 first) (loops 0 second), length-append (loops 0 first ++ loops 0 second) (loops 0 rest)) in
     ap (λ xs. inner ∷ xs) (marks_flat first inner (inner ∷ around) count (Else ∷ flat second (End ∷ flat rest after)) tree.0)
-    ∙ ap (λ xs. inner ∷ innermost inner count first (inner ∷ xs)) (marks_flat second inner (inner ∷ around) (count + length (loops first)) (End ∷ flat rest after) tree.1
-    ∙ ap (λ xs. innermost inner (count + length (loops first)) second (inner ∷ xs)) (marks_flat rest inner around (count + length (loops first) + length (loops second)) after tree.2
-    ∙ ap (λ k. innermost inner (count + length (loops first) + length (loops second)) rest (marks after (opened inner around k))) n))
+    ∙ ap (λ xs. inner ∷ innermost inner count first (inner ∷ xs)) (marks_flat second inner (inner ∷ around) (count + length (loops 0 first)) (End ∷ flat rest after) tree.1
+    ∙ ap (λ xs. innermost inner (count + length (loops 0 first)) second (inner ∷ xs)) (marks_flat rest inner around (count + length (loops 0 first) + length (loops 0 second)) after tree.2
+    ∙ ap (λ k. innermost inner (count + length (loops 0 first) + length (loops 0 second)) rest (marks after (opened inner around k))) n))
 
 -- ---- the loops over flat code
 

@@ -7,7 +7,7 @@ use Rattle.wa_ops.specs.Callees.{guard, accept, rollback, host_call}
 use Rattle.wa_ops.specs.Contexts.{callee_of_row}
 use Rattle.wa_ops.specs.HookRules.{is_guard}
 use Rattle.wa_ops.specs.Rows.{row_parameters}
-use Rattle.hk_rules.specs.Imports.{callees}
+use Rattle.wa_ops.specs.Contexts.{callees}
 
 pub own_row : (rows : List CallNo) (function : ℕ) → is_none (slice_get (callees rows) function) ≡ not (is_some (slice_get rows function))
 own_row [] function = refl

@@ -8,7 +8,8 @@ use Rattle.wa_ops.specs.declared.rule_fault.RuleFault.{RuleFault}
 use Rattle.wa_ops.specs.Callees.{Callee}
 use Rattle.wa_ops.specs.Contexts.{calls_of}
 use Rattle.wa_ops.specs.HookRules.{IsFirst, AreKept, IsRuled, float_rules, import_rules, other_rules, hook_rules, has_repeats, is_hook, is_bad_export}
-use Rattle.hk_rules.specs.Imports.{callees, rows_named, found_rows, AreRows}
+use Rattle.hk_rules.specs.Imports.{rows_named, found_rows, AreRows}
+use Rattle.wa_ops.specs.Contexts.{callees}
 use Rattle.hk_rules.proofs.Entries.{one_hook}
 use Rattle.hk_rules.proofs.Least.{first_front, first_behind, kept_both}
 use Rattle.hk_rules.proofs.RowsOfCalls.{length-callees}

@@ -1,17 +1,11 @@
 -- The rows of a module's imports (this project's own).
-use Rattle.std.specs.Prelude.{ℕ, ◌≡◌, List, [], ◌∷◌, Option, Some, true, map}
+use Rattle.std.specs.Prelude.{ℕ, ◌≡◌, List, Option, Some, true, map}
 use Rattle.wa_ops.specs.declared.call_no.CallNo.{CallNo}
 use Rattle.wa_ops.specs.declared.modules.FuncType.{FuncType}
 use Rattle.wa_ops.specs.declared.modules.Import.{Import}
-use Rattle.wa_ops.specs.Callees.{Callee}
-use Rattle.wa_ops.specs.Contexts.{calls_of, callee_of_row}
+use Rattle.wa_ops.specs.Contexts.{calls_of, callees}
 use Rattle.wa_ops.specs.HookRules.{AreKept, import_rules, is_api_import}
 use Rattle.wa_ops.specs.Rows.{row_named}
-
--- what imports of these rows are to the code
-abbrev pub callees : List CallNo → List Callee
-callees [] = []
-callees (row ∷ rows) = callee_of_row (Some row.0) ∷ callees rows
 
 abbrev pub rows_named : List Import → List (Option ℕ)
 rows_named imports = map (λ import. row_named import.name) imports

@@ -3,3 +3,4 @@ pub mod Guards
 pub mod Imports
 pub mod Loops
 pub mod Passing
+pub mod Sparing

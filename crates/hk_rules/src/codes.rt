@@ -1,5 +1,5 @@
 ghost use Rattle.hk_rules.specs.Answers.{Judges};
-ghost use Rattle.hk_rules.specs.Imports.{callees};
+ghost use Rattle.wa_ops.specs.Contexts.{callees};
 ghost use Rattle.std.specs.Prelude.{◌≡◌, length, nat_lt, sum_by};
 ghost use Rattle.wa_ops.specs.Contexts.{function_type, parameters_of};
 ghost use Rattle.wa_ops.specs.HookRules as rule;

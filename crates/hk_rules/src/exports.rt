@@ -1,7 +1,7 @@
 ghost use Rattle.hk_rules.specs.Answers.{Judges};
 ghost use Rattle.std.specs.List.{list_any};
 ghost use Rattle.std.specs.Option.{option_map_or};
-ghost use Rattle.std.specs.Prelude.{◌≡◌, ◌||◌, ◌<◌, ◌^◌, ◌∷◌, [], bytes_eq, false, is_some, length, not};
+ghost use Rattle.std.specs.Prelude.{◌≡◌, ◌||◌, ◌<◌, ◌^◌, ◌∷◌, [], IfErr, IfOk, false, is_some, length, not};
 ghost use Rattle.wa_ops.specs.Contexts.{function_type, has_items};
 ghost use Rattle.wa_ops.specs.HookRules as rule;
 ghost use Rattle.wa_ops.specs.Soundness.{IsSound};
@@ -11,6 +11,8 @@ ghost use Rattle.wa_ops.specs.declared.rule_fault.RuleFault.TheVariants as fault
 use crate::finding::check_items;
 use crate::imports::is_function_type;
 use crate::segments::Segments;
+use std::alloc::Global;
+use std::collections::BTreeSet;
 use wa_ops::{Element, Items, Module, ModuleExport, RuleFault, ValueType};
 
 /// Whether the function is exported as `hook`.
@@ -33,23 +35,19 @@ fn has_hook(exports: &[ModuleExport]) -> bool
     exports.iter().any(is_hook)
 }
 
-fn has_name(exports: &[ModuleExport], name: &[u8]) -> bool
-    ensures name { result ≡ list_any (λ other. bytes_eq name.now other.name) exports.now }
+/// Whether two exports have one name. The names so far stand in a sorted set.
+pub(crate) fn has_repeats(alloc: Global, exports: &[ModuleExport]) -> Result<bool, RuleFault>
+    ensures repeats { IfOk result (λ found. found ≡ rule.has_repeats exports.now) }
+    ensures fault { IfErr result (λ found. found ≡ RuleFault.NoMemory) }
 {
-    exports.iter().any(|other| name == other.name.as_slice())
-}
-
-fn has_repeats(exports: &[ModuleExport]) -> bool
-    ensures repeats { result ≡ rule.has_repeats exports.now }
-{
-    let mut rest = exports;
-    while let [export, more @ ..] = rest {
-        if has_name(more, export.name.as_slice()) {
-            return true;
+    let mut met = BTreeSet::new(alloc);
+    for export in exports {
+        let is_new = met.insert(export.name.as_slice())?;
+        if !is_new {
+            return Ok(true);
         }
-        rest = more;
     }
-    false
+    Ok(false)
 }
 
 /// How many of this kind there are, where so many functions are imported.
@@ -111,21 +109,23 @@ fn has_bad_export(imported: usize, module: &Module, exports: &[ModuleExport]) ->
         .any(|export| is_bad_export(imported, module, export))
 }
 
-fn has_bad_exports(imported: usize, module: &Module) -> bool
+fn has_bad_exports(imported: usize, module: &Module, repeats: bool) -> bool
     requires imported { imported < 2 ^ 32 }
+    requires repeats { repeats ≡ rule.has_repeats «module».now.exports }
     requires sound { IsSound «module».now }
     ensures bad { result ≡ (rule.has_repeats «module».now.exports || (not (list_any rule.is_hook «module».now.exports) || list_any (rule.is_bad_export imported «module».now) «module».now.exports)) }
 {
     let exports = module.exports.as_slice();
-    has_repeats(exports) || !has_hook(exports) || has_bad_export(imported, module, exports)
+    repeats || !has_hook(exports) || has_bad_export(imported, module, exports)
 }
 
-fn check_exports(imported: usize, module: &Module) -> Result<(), RuleFault>
+fn check_exports(imported: usize, module: &Module, repeats: bool) -> Result<(), RuleFault>
     requires imported { imported < 2 ^ 32 }
+    requires repeats { repeats ≡ rule.has_repeats «module».now.exports }
     requires sound { IsSound «module».now }
     ensures rule { Judges (rule.module_rule fault.BadExport (rule.has_repeats «module».now.exports || (not (list_any rule.is_hook «module».now.exports) || list_any (rule.is_bad_export imported «module».now) «module».now.exports)) ∷ []) result }
 {
-    let broken = has_bad_exports(imported, module);
+    let broken = has_bad_exports(imported, module, repeats);
     if broken {
         return Err(RuleFault::BadExport);
     }
@@ -167,13 +167,15 @@ fn check_elements(elements: &Items<Element>) -> Result<(), RuleFault>
     Ok(())
 }
 
-/// The rules about exports, the start, elements and data, where so many functions are imported.
-pub(crate) fn check_links(imported: usize, module: &Module) -> Result<(), RuleFault>
+/// The rules about exports, the start, elements and data, where so many functions are imported, and where two exports have one
+/// name or not.
+pub(crate) fn check_links(imported: usize, module: &Module, repeats: bool) -> Result<(), RuleFault>
     requires imported { imported < 2 ^ 32 }
+    requires repeats { repeats ≡ rule.has_repeats «module».now.exports }
     requires sound { IsSound «module».now }
     ensures rules { Judges (rule.link_rules imported «module».now) result }
 {
-    check_exports(imported, module)?;
+    check_exports(imported, module, repeats)?;
     check_start(module.start)?;
     check_elements(&module.elements)?;
     check_items::<Segments>(module, &module.segments)

@@ -3,7 +3,7 @@ ghost use Rattle.wa_ops.specs.Callees.{Callee};
 ghost use Rattle.wa_ops.specs.declared.modules.Module.{Module};
 ghost use Rattle.wa_ops.specs.declared.op.Op.{Op};
 ghost use Rattle.wa_ops.specs.declared.rule_fault.RuleFault.{RuleFault};
-ghost use Rattle.hk_rules.specs.Imports.{callees};
+ghost use Rattle.wa_ops.specs.Contexts.{callees};
 ghost use Rattle.hk_rules.specs.Answers.{FindsIndex, Judges};
 ghost use Rattle.wa_ops.specs.HookRules.{code_rule, in_code, item_rule, passes};
 ghost use Rattle.wa_ops.specs.Soundness.{AreSound, IsSoundBody};

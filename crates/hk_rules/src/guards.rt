@@ -1,4 +1,4 @@
-ghost use Rattle.hk_rules.specs.Guards.{entry_of};
+ghost use Rattle.wa_ops.specs.Functions.{entry_of};
 ghost use Rattle.std.specs.Prelude.{◌≡◌};
 ghost use Rattle.wa_ops.specs.HookRules as rule;
 
@@ -18,13 +18,15 @@ pub struct Guards {
     pub functions: Items<FunctionGuards>,
 }
 
-/// The loops of a function.
+/// The loops and arms of a function.
 #[derive(Debug, Drop)]
 pub struct FunctionGuards {
     /// All loops, in order of place.
     pub loops: Items<LoopGuard>,
     /// For each instruction, the number of the innermost loop to whose body it belongs.
     pub innermost: Items<Option<u32>>,
+    /// For each instruction, what version 1 of the bound doesn't count: at an `if` with two arms what the cheaper one costs.
+    pub spared: Items<u32>,
 }
 
 /// A loop: the place of its instruction `loop`, and the two numbers of its guard, unsigned.

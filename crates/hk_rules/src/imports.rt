@@ -1,5 +1,5 @@
 ghost use Rattle.hk_rules.specs.Imports.{AreRows, IsRowOf};
-ghost use Rattle.std.specs.Prelude.{◌≡◌, ◌≢◌, ◌^◌, ◌<◌, IfOk, IfErr, MatchOption, false, length};
+ghost use Rattle.std.specs.Prelude.{◌≡◌, ◌≢◌, ◌^◌, ◌<◌, ◌≤◌, IfOk, IfErr, MatchOption, false, length};
 ghost use Rattle.wa_ops.specs.HookRules as rule;
 ghost use Rattle.wa_ops.specs.Typing.{is_same_type};
 
@@ -44,7 +44,7 @@ pub(crate) fn is_function_type(parameters: &[ValueType], answer: ValueType, kind
 
 /// Whether the type at `index` is that of the call in this row.
 fn is_row_type(types: &[FuncType], index: u32, number: CallNo) -> bool
-    requires listed { number.0 < 3 }
+    requires row { number.0 ≤ 64 }
     ensures row { result ≡ rule.is_row_type types.now index (Some number.0) }
 {
     match types.get(index as usize) {

@@ -1,13 +1,14 @@
 ghost use Rattle.hk_rules.specs.Answers.{Judges};
 ghost use Rattle.hk_rules.specs.Guards.{AreGuards};
-ghost use Rattle.hk_rules.specs.Imports.{AreRows, callees};
+ghost use Rattle.hk_rules.specs.Imports.{AreRows};
+ghost use Rattle.wa_ops.specs.Contexts.{callees};
 ghost use Rattle.std.specs.List.{list_any};
 ghost use Rattle.std.specs.Prelude.{◌≡◌, ◌≢◌, ◌<◌, ◌^◌, IfErr, IfOk, OnOk, length, true};
 ghost use Rattle.wa_ops.specs.HookRules as rule;
 ghost use Rattle.wa_ops.specs.Soundness.{IsSound};
 
 use crate::codes::{check_guards, check_instructions};
-use crate::exports::check_links;
+use crate::exports::{check_links, has_repeats};
 use crate::floats::check_floats;
 use crate::guards::{Guards, cbak_of, hook_of};
 use crate::imports::check_imports;
@@ -17,13 +18,14 @@ use std::alloc::Global;
 use wa_ops::{CallNo, Items, Module, NoMemory, RuleFault};
 
 /// The rules behind those about imports, where these are their rows.
-fn check_others(module: &Module, rows: &[CallNo]) -> Result<(), RuleFault>
+fn check_others(module: &Module, rows: &[CallNo], repeats: bool) -> Result<(), RuleFault>
     requires sound { IsSound «module».now }
+    requires repeats { repeats ≡ rule.has_repeats «module».now.exports }
     requires counted { length rows.now < 2 ^ 32 }
     ensures rules { Judges (rule.other_rules (length rows.now) (callees rows.now) «module».now) result }
 {
     check_sections(module)?;
-    check_links(rows.len(), module)?;
+    check_links(rows.len(), module, repeats)?;
     check_instructions(module, rows)?;
     check_guards(module, rows)
 }
@@ -58,7 +60,7 @@ fn guards_of(alloc: Global, module: &Module, rows: Items<CallNo>) -> Result<Guar
 
 /// Judges whether a module is a hook: the fault is that of the first rule that is broken anywhere, at its least place.
 ///
-/// NoMemory comes where the rows of the imports or the loops found none.
+/// NoMemory comes where the rows of the imports, the names of the exports or the loops found none.
 pub fn rules(alloc: Global, module: &Module) -> Result<Guards, RuleFault>
     requires sound { IsSound «module».now }
     ensures ruled { OnOk result (rule.IsRuled «module».now) }
@@ -67,6 +69,7 @@ pub fn rules(alloc: Global, module: &Module) -> Result<Guards, RuleFault>
 {
     check_floats(module)?;
     let rows = import_rows(alloc, module)?;
-    check_others(module, rows.as_slice())?;
+    let repeats = has_repeats(alloc, module.exports.as_slice())?;
+    check_others(module, rows.as_slice(), repeats)?;
     Ok(guards_of(alloc, module, rows)?)
 }

@@ -12,6 +12,7 @@ mod loops;
 mod operations;
 mod sections;
 mod segments;
+mod sparing;
 
 pub use guards::{FunctionGuards, Guards, LoopGuard};
 pub use judging::rules;

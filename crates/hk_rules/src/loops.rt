@@ -1,11 +1,12 @@
 ghost use Rattle.hk_rules.specs.Loops.{body_guards, code_guards, innermost, loop_guards};
 ghost use Rattle.hk_rules.specs.Passing.{first_around, guard_by, number_in, number_of, others_around, passed};
 ghost use Rattle.std.specs.Prelude.{◌≡◌, ◌+◌, ◌∷◌, ◌<◌, ◌^◌, [], IfOk, None, OnOk, Some, length, map, slice_get};
-ghost use Rattle.wa_ops.specs.Sequences.{Reads, Sequence, nesting};
+ghost use Rattle.wa_ops.specs.Sequences.{IsNested, Reads, Sequence, nesting};
 ghost use Rattle.wa_ops.specs.Soundness.{AreSound, IsCounted, IsSoundBody};
 
 use crate::guards::{FunctionGuards, LoopGuard};
 use crate::operations::is_loop;
+use crate::sparing::spared_of;
 use std::alloc::Global;
 use std::marker::Model;
 use wa_ops::{Code, Items, NoMemory, Op};
@@ -150,18 +151,20 @@ fn innermost_of(alloc: Global, ops: &[Op]) -> Result<Items<Option<u32>>, NoMemor
     Ok(found)
 }
 
-/// The loops of a function.
+/// The loops and arms of a function.
 fn function_guards(alloc: Global, ops: &[Op]) -> Result<FunctionGuards, NoMemory>
+    requires nested { IsNested ops.now }
     requires counted { IsCounted ops.now }
     ensures loops { IfOk result (λ guards. (body : Sequence) → Reads ops.now body → guards ≡ body_guards body) }
 {
     Ok(FunctionGuards {
         loops: loops_of(alloc, ops)?,
         innermost: innermost_of(alloc, ops)?,
+        spared: spared_of(alloc, ops)?,
     })
 }
 
-/// The loops of each function.
+/// The loops and arms of each function.
 pub(crate) fn functions_of(alloc: Global, codes: &[Code]) -> Result<Items<FunctionGuards>, NoMemory>
     requires sound { AreSound IsSoundBody codes.now }
     ensures functions { IfOk result (λ functions. map (λ guards. Some guards) functions ≡ code_guards codes.now) }

@@ -1,4 +1,4 @@
-ghost use Rattle.hk_rules.specs.Imports.{callees};
+ghost use Rattle.wa_ops.specs.Contexts.{callees};
 ghost use Rattle.std.specs.Option.{option_map_or};
 ghost use Rattle.std.specs.Prelude.{◌≡◌, ◌==◌, ◌&&◌, false, is_some, length, slice_get};
 ghost use Rattle.wa_ops.specs.HookRules as rule;

@@ -1,6 +1,6 @@
 use Rattle.hk_rules.proofs.Least.{exits_at, judges_tail}
 use Rattle.wa_ops.specs.HookRules.{guard_rules}
-use Rattle.hk_rules.specs.Imports.{callees}
+use Rattle.wa_ops.specs.Contexts.{callees}
 use Rattle.hk_rules.proofs.codes.check_guards.Goals as goal
 
 pub returns-in_err-check_codes : goal.returns-in_err-check_codes

@@ -1,6 +1,6 @@
 use Rattle.hk_rules.proofs.Least.{exits_at, judges_tail, tail_rules}
 use Rattle.wa_ops.specs.HookRules.{code_rules}
-use Rattle.hk_rules.specs.Imports.{callees}
+use Rattle.wa_ops.specs.Contexts.{callees}
 use Rattle.hk_rules.proofs.codes.check_instructions.Goals as goal
 
 pub returns-in_err-check_items : goal.returns-in_err-check_items

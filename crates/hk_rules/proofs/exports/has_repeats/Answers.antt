@@ -1,15 +1,13 @@
-use Rattle.hk_rules.proofs.Repeats.{repeats_next, repeats_found, no_repeats}
+use Rattle.std.proofs.Common.{sym, ◌∙◌}
+use Rattle.hk_rules.proofs.Repeats.{met_again, met_next}
 use Rattle.hk_rules.proofs.exports.has_repeats.Goals as goal
 
-pub loop-rest-preserved : goal.loop-rest-preserved
-loop-rest-preserved c = repeats_next c.loop-rest.rest.now c.args.exports.now c.export-item.result _ _
-    c.in-len1-up.len_at_least c.export-item.is c.as_slice.ensures.items c.has_name.ensures.name c.if-has_name.false c.loop-rest.invariant
+pub returns-then-not-is_new-clause-repeats : goal.returns-then-not-is_new-clause-repeats
+returns-then-not-is_new-clause-repeats c =
+    met_again c.args.exports.now c.loop-export.export-index c.export-item.result c.as_slice.result c.loop-export.met.keys
+    c.loop-export-test.true c.export-item.is c.as_slice.ensures.items (sym c.if-not-is_new.true ∙ c.in_ok-is_new.ensures.added) c.loop-export.invariant
 
-pub returns-then-has_name : goal.returns-then-has_name
-returns-then-has_name c = record {
-  repeats = repeats_found c.loop-rest.rest.now c.args.exports.now c.export-item.result _ _
-      c.in-len1-up.len_at_least c.export-item.is c.as_slice.ensures.items c.has_name.ensures.name c.if-has_name.true c.loop-rest.invariant;
-}
-
-pub returns : goal.returns
-returns c = record { repeats = no_repeats c.loop-rest.rest.now c.args.exports.now c.in_default.len_below c.loop-rest.invariant }
+pub loop-export-preserved : goal.loop-export-preserved
+loop-export-preserved c =
+    met_next c.args.exports.now c.loop-export.export-index c.export-item.result c.as_slice.result c.loop-export.met.keys c.insert.new.self.keys
+    c.loop-export-test.true c.export-item.is c.as_slice.ensures.items (sym c.if-not-is_new.false ∙ c.in_ok-is_new.ensures.added) c.in_ok-is_new.ensures.keys c.loop-export.invariant

@@ -1,9 +1,5 @@
-use Rattle.std.proofs.Common.{◌≡◌, length}
-use Rattle.wa_ops.specs.HookRules.{has_repeats}
+use Rattle.hk_rules.proofs.Repeats.{Met}
 use Rattle.hk_rules.proofs.exports.has_repeats.Given as goal
 
-abbrev pub invariant-loop-rest : goal.invariant-loop-rest
-invariant-loop-rest l = has_repeats l.rest ≡ has_repeats l.exports
-
-abbrev pub decreases-loop-rest : goal.decreases-loop-rest
-decreases-loop-rest l = length l.rest
+abbrev pub invariant-loop-export : goal.invariant-loop-export
+invariant-loop-export l = Met l.exports l.export-index l.met.keys

@@ -1,5 +1,5 @@
 use Rattle.std.proofs.Common.{◌≡◌, ℕ, ◌<◌, false}
-use Rattle.hk_rules.specs.Imports.{callees}
+use Rattle.wa_ops.specs.Contexts.{callees}
 use Rattle.hk_rules.proofs.finding.first_broken.Given as goal
 
 abbrev pub invariant-loop-place : goal.invariant-loop-place

@@ -1,6 +1,6 @@
 use Rattle.std.proofs.Common.{◌≡◌, ℕ, ◌<◌, false}
 use Rattle.wa_ops.specs.HookRules.{in_code}
-use Rattle.hk_rules.specs.Imports.{callees}
+use Rattle.wa_ops.specs.Contexts.{callees}
 use Rattle.hk_rules.proofs.finding.judge_codes.Given as goal
 
 abbrev pub invariant-loop-func : goal.invariant-loop-func

@@ -1,6 +1,6 @@
 use Rattle.std.proofs.Common.{length, ◌++◌}
 use Rattle.hk_rules.proofs.Least.{exits_front, judges_behind}
-use Rattle.hk_rules.specs.Imports.{callees}
+use Rattle.wa_ops.specs.Contexts.{callees}
 use Rattle.wa_ops.specs.HookRules.{section_rules, link_rules, code_rules, guard_rules}
 use Rattle.hk_rules.proofs.judging.check_others.Goals as goal
 

@@ -2,7 +2,7 @@ use Rattle.std.proofs.Common.{◌≡◌, ◌∙◌, length, sym, ap}
 use Rattle.std.specs.Prelude.{Some, unwrap_or}
 use Rattle.wa_ops.specs.Contexts.{calls_of}
 use Rattle.wa_ops.specs.HookRules.{is_hook, is_cbak}
-use Rattle.hk_rules.specs.Guards.{entry_of}
+use Rattle.wa_ops.specs.Functions.{entry_of}
 use Rattle.hk_rules.specs.Loops.{code_guards}
 use Rattle.hk_rules.proofs.Entries.{entry_kept}
 use Rattle.hk_rules.proofs.Whole.{count_of_rows}
