@@ -1,0 +1,23 @@
+-- Tables of answers, of which the first row that applies decides. This project's own.
+use Rattle.std.specs.Prelude.{◌≡◌, Bool, true, false, cond, if◌then◌else◌, List, [], ◌∷◌, Option, Some, None, refl}
+
+module _ {R : Type 0} where
+  abbrev pub first_row : List (Bool × R) → Option R
+  first_row [] = None
+  first_row (row ∷ rows) = if row.0 then Some row.1 else first_row rows
+
+  abbrev pub NoneApplies : List (Bool × R) → Type 0
+  NoneApplies [] = Unit {0}
+  NoneApplies (row ∷ rows) = (row.0 ≡ false) × NoneApplies rows
+
+  pub none_applies : (rows : List (Bool × R)) → first_row rows ≡ None → NoneApplies rows
+  none_applies [] h = tt
+  none_applies (row ∷ rows) h =
+      elim row.0 as (λ b. cond b (Some row.1) (first_row rows) ≡ None → (b ≡ false) × NoneApplies rows) [
+        | true ↦ λ applies. cc
+        | false ↦ λ rest. (refl, none_applies rows rest)
+      ] h
+
+  pub none_first : (row : Bool × R) (rows : List (Bool × R)) → first_row (row ∷ rows) ≡ None → first_row rows ≡ None
+  none_first row rows h =
+      elim row.0 as (λ b. cond b (Some row.1) (first_row rows) ≡ None → first_row rows ≡ None) [ true ↦ λ applies. cc | false ↦ λ rest. rest ] h
