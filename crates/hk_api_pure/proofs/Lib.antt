@@ -1,0 +1,4 @@
+pub mod Readings
+pub mod Edits
+pub mod FloatLemmas
+pub mod Lengths

@@ -1,0 +1,9 @@
+pub mod Hashes
+pub mod Editing
+pub mod Objects
+pub mod Floats
+pub mod Decimals
+pub mod Amounts
+pub mod Traces
+pub mod Table
+pub mod Laws

@@ -1,0 +1,4 @@
+pub mod EmittedFound
+pub mod Taking
+pub mod Judging
+pub mod Joining

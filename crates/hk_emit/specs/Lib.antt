@@ -1,0 +1,5 @@
+pub mod Numbers
+pub mod Details
+pub mod Accept
+pub mod Emitted
+pub mod Accepted
