@@ -1,4 +1,4 @@
-//! Each call with ample memory, against answers written by hand.
+//! Calls that no row of a replay reaches, with ample memory, against answers written by hand.
 ghost use Rattle.std.specs.Prelude.{◌≡◌, IsTrue};
 ghost use Rattle.std.proofs.Common.{subst};
 ghost use Rattle.hk_lines.specs.declared.result_name.ResultName.TheVariants.{Occupied};
@@ -7,10 +7,10 @@ ghost use Rattle.hk_ledger.specs.Rules.{IsFailure, fails};
 
 use crate::{
     Done, Entries, Entry, Header, Key, Ledger, Native, OpenFault, Overlay, Replay, Stepped,
-    Transactor, World, apply, conserves, open_account, open_ledger,
+    Transactor, World, conserves, open_account, open_ledger,
 };
 use hk_base::{AccountId, Hash256, Items, NoMemory, hex_to_bytes};
-use hk_lines::{InputLine, OutputLine, ResultName, Verdict, print_line, read_line};
+use hk_lines::{InputLine, OutputLine, ResultName, print_line, read_line};
 use hk_reading::{Reading, read};
 use std::alloc::{AllocError, Global};
 use std::test::Fail;
@@ -101,45 +101,10 @@ fn turned<T: Transactor>(
 }
 
 #[test]
-fn a_replay_takes_each_kind_of_line(rt: HostRuntime) -> Result<(), Fail> {
-    let alloc = rt.alloc();
-    conserves::<Native>();
-    let mut replay = Replay::new(alloc);
-    let rows = [
-        ("tx good 00", "bad_order"),
-        ("hook 00", "bad_word"),
-        ("account A 30000000 5", "goes\n"),
-        ("account A 1 1", "repeated_account"),
-        ("account B 99999999970000001 1", "total"),
-        ("account B 10000000 1", "goes\n"),
-        ("ledger 7 0 O", "goes\nledger 7\n"),
-        ("ledger 7 0 O", "bad_order"),
-        ("account C 0 1", "bad_order"),
-        (
-            "tx good 12000024000000056140000000000f424068400000000000000a73008114A8314B",
-            "goes\ntx 1 success fee 10\n",
-        ),
-        (
-            "tx good 12000024000000056140000000000f424068400000000000000a73008114A8314B",
-            "goes\ntx 2 past_sequence fee 0\n",
-        ),
-        (
-            "end",
-            "ends\nfinal account A 28999990 6 0 0\nfinal account B 11000000 1 0 0\nfinal total 39999990 burnt 10\ndone\n",
-        ),
-    ];
-    for (text, want) in rows {
-        let got = turned(alloc, &mut replay, &Native, text)?;
-        let want = spelled(alloc, want)?;
-        assert_eq!(rt; got.as_slice(), want.as_bytes(), "at {text}");
-    }
-    Ok(())
-}
-
-#[test]
 fn other_rules_fail_with_a_fee(rt: HostRuntime) -> Result<(), Fail> {
     let alloc = rt.alloc();
     conserves::<Failing>();
+    conserves::<Native>();
     let mut replay = Replay::new(alloc);
     let rows = [
         ("account A 30000000 5", "goes\n"),
@@ -238,82 +203,6 @@ fn two_accounts(alloc: Global) -> Result<World, OpenFault> {
     open_account(&mut world, &B, 10_000_000, 1)?;
     open_ledger(&mut world, 7, 0, &O);
     Ok(world)
-}
-
-// What a transaction does: its line, the lines that follow, and the ledger behind it.
-fn applied(alloc: Global, verdict: Verdict, blob: &[u8]) -> Result<Vec<u8>, Fail> {
-    let mut world = two_accounts(alloc).ok().ok_or("no accounts")?;
-    let report = apply(alloc, &mut world, &Native, verdict, blob)?;
-    let mut lines = Items::new(alloc);
-    lines.push(OutputLine::Tx {
-        number: 1,
-        result: report.result.ok_or("no result")?,
-        fee: report.fee,
-    })?;
-    let mut out = printed(alloc, "", lines.as_slice())?;
-    out.extend_from_slice(&printed(alloc, "", report.lines.as_slice())?)?;
-    out.extend_from_slice(&printed(alloc, "", world.final_lines(alloc)?.as_slice())?)?;
-    Ok(out)
-}
-
-#[test]
-fn transactions_are_applied(rt: HostRuntime) -> Result<(), Fail> {
-    let alloc = rt.alloc();
-    let before =
-        "final account A 30000000 5 0 0\nfinal account B 10000000 1 0 0\nfinal total 40000000 burnt 0\ndone\n";
-    let rows = [
-        (
-            Verdict::Good,
-            PAYMENT,
-            "tx 1 success fee 10\n",
-            "final account A 28999990 6 0 0\nfinal account B 11000000 1 0 0\nfinal total 39999990 burnt 10\ndone\n",
-        ),
-        (Verdict::Bad, PAYMENT, "tx 1 bad_signature fee 0\n", before),
-        (Verdict::Bad, "2200000000", "tx 1 malformed fee 0\n", before),
-        (Verdict::Good, "22000000", "tx 1 unparsed fee 0\n", before),
-        (
-            Verdict::Good,
-            "1200002400000005614000000001312cf768400000000000000a73008114A8314B",
-            "tx 1 unfunded fee 10\n",
-            "final account A 29999990 6 0 0\nfinal account B 10000000 1 0 0\nfinal total 39999990 burnt 10\ndone\n",
-        ),
-        (
-            Verdict::Good,
-            "120000240000000561400000000098968068400000000000000a73008114A8314C",
-            "tx 1 success fee 10\n",
-            "final account A 19999990 6 0 0\nfinal account B 10000000 1 0 0\nfinal account C 10000000 7 0 0\nfinal total 39999990 burnt 10\ndone\n",
-        ),
-    ];
-    for (verdict, blob, answer, left) in rows {
-        let text = spelled(alloc, blob)?;
-        let bytes = hex_to_bytes(alloc, text.as_bytes())?.ok_or("no hex")?;
-        let got = applied(alloc, verdict, &bytes)?;
-        let want = spelled(alloc, format!(in alloc; "{answer}{left}")?.as_str())?;
-        assert_eq!(rt; got.as_slice(), want.as_bytes(), "at {blob}");
-    }
-    Ok(())
-}
-
-// The result of so many zeros. A number that the check doesn't know makes no long list of them in its proof.
-fn result_of_zeros(alloc: Global, count: usize) -> Result<Option<ResultName>, Fail> {
-    let mut world = two_accounts(alloc).ok().ok_or("no accounts")?;
-    let bytes = vec![in alloc; 0u8; count]?;
-    let report = apply(alloc, &mut world, &Native, Verdict::Good, &bytes)?;
-    Ok(report.result)
-}
-
-#[test]
-fn long_transactions_are_told(rt: HostRuntime) -> Result<(), Fail> {
-    let alloc = rt.alloc();
-    assert_eq!(rt;
-        result_of_zeros(alloc, 1_000_000)?,
-        Some(ResultName::Unparsed)
-    );
-    assert_eq!(rt;
-        result_of_zeros(alloc, 1_000_001)?,
-        Some(ResultName::TooLong)
-    );
-    Ok(())
 }
 
 // An entry in short.

@@ -2,6 +2,8 @@
 ghost use Rattle.std.specs.Prelude.{◌≤◌, ◌<◌, ◌^◌, ◌+◌, ◌-◌, ◌++◌, ◌∷◌, [], Some, codes, length, min, if◌then◌else◌};
 ghost use Rattle.std.specs.Fmt.{decimal};
 ghost use Rattle.std.specs.Str.{bytes_eq};
+ghost use Rattle.std.proofs.Math.Nat.{min-le_right};
+ghost use Rattle.hk_base.specs.Outside.{last_count};
 ghost use Rattle.hk_lines.specs.Given.{goes, ends, wrong};
 ghost use Rattle.hk_lines.specs.declared.rule.Rule.TheVariants.{BadWord};
 ghost use Rattle.hk_lines.specs.declared.status.Status.TheVariants.{Done, HookRefused};
@@ -312,6 +314,8 @@ impl Sink for Slow {
     ghost written = { λ slow. Some slow.sink };
 
     ghost faults = { λ _. 0 };
+
+    ghost at_most_last = { λ _. min-le_right 0 last_count };
 
     fn write(&mut self, piece: &[u8]) -> Result<usize, SinkStop> {
         self.sink.write(&piece[..1])

@@ -14,7 +14,8 @@ use Rattle.xo_list.specs.Value.{Head, Stands, Goes, Whole, IsValue, IsObject, Is
 use Rattle.hk_reading.specs.Amounts.{only_if, amount_size}
 use Rattle.hk_reading.specs.Parsing.{Found, money, marked, item_of, item_at, and_on, items_at, all_at, value_at, whole, fields_of, elements_of}
 use Rattle.hk_reading.proofs.AmountsFound.{is_amount_so, amount_size_again}
-use Rattle.hk_reading.proofs.Finding.{Finds, some_same, none_some, only_if_some, finds_if, finds_then, finds_map, finds_none, nat_same, nat_up_to}
+use Rattle.xo_fields.proofs.Cases.{some_same, none_some}
+use Rattle.hk_reading.proofs.Finding.{Finds, only_if_some, finds_if, finds_then, finds_map, finds_none, nat_same, nat_up_to}
 use Rattle.hk_reading.proofs.Fronts.{cut_at, fixed_found, Start, HasHead, header_found, sized_found}
 
 money_found : (bytes : List ℕ) → Finds (λ p. IsAmount p.0 × (bytes ≡ p.0 ++ p.1)) (money bytes)

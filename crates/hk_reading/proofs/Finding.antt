@@ -4,18 +4,13 @@ use Rattle.std.specs.Prelude.{bytes_eq, Decides}
 use Rattle.std.specs.Option.{option_and_then, option_map}
 use Rattle.std.proofs.lemmas.Bool.Decides.{nat_tests, Decides-eqb, Decides-ltb}
 use Rattle.std.proofs.lemmas.Slice.Eq.{bytes_eq-Decides}
+use Rattle.xo_fields.proofs.Cases.{some_same, none_some}
 use Rattle.hk_reading.specs.Amounts.{only_if}
 
 -- a value is found exactly where the relation holds of it, and so of no other
 pub record Finds {A : Type 0} (P : A → Type 0) (o : Option A) : Type 0 where
   pub sound : (x : A) → o ≡ Some x → P x
   pub complete : (x : A) → P x → o ≡ Some x
-
-pub some_same : {A : Type 0} (x y : A) → Some x ≡ Some y → x ≡ y
-some_same x y e = cc
-
-pub none_some : {A : Type 0} {P : Type 0} (x : A) → None ≡ Some x → P
-none_some x e = absurd cc
 
 pub only_if_some : {A : Type 0} (b : Bool) (o : Option A) (x : A) → only_if b o ≡ Some x → (b ≡ true) × (o ≡ Some x)
 only_if_some true o x e = (refl, e)

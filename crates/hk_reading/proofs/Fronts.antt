@@ -19,7 +19,8 @@ use Rattle.xo_fields.proofs.HeaderBytes.{header_again}
 use Rattle.xo_fields.proofs.LengthBytes.{length_again}
 use Rattle.xo_list.specs.Value.{Allowed, Head}
 use Rattle.hk_reading.specs.Parsing.{is_field, is_allowed, head_of, fixed, sized}
-use Rattle.hk_reading.proofs.Finding.{Finds, none_some, finds_one, finds_if, finds_map, nat_same, nat_below, nat_up_to, lists_same}
+use Rattle.xo_fields.proofs.Cases.{none_some}
+use Rattle.hk_reading.proofs.Finding.{Finds, finds_one, finds_if, finds_map, nat_same, nat_below, nat_up_to, lists_same}
 
 -- the front of a list and the rest of it
 pub cut_at : (n : ℕ) (bytes front rest : List ℕ) → bytes ≡ front ++ rest → length front ≡ n → (take n bytes ≡ front) × (drop n bytes ≡ rest)

@@ -1,7 +1,8 @@
 -- Bytes read as the function says, and as nothing else.
 use Rattle.std.proofs.Common.{◌≡◌, ◌≢◌, ℕ, ◌<◌, ◌≤◌, ◌⊎◌, inl, inr, true, false, List, length, refl, sym, ap, subst, ◌∙◌, arith, Result, Ok, Err, IfOk, IfSome, Option, Some, None, if◌then◌else◌, nat_lt}
 use Rattle.std.proofs.lemmas.Bool.Decides.{nat_tests}
-use Rattle.xo_fields.proofs.Cases.{pick}
+use Rattle.xo_object.proofs.Values.{number_same}
+use Rattle.xo_fields.proofs.Cases.{pick, none_some}
 use Rattle.xo_object.specs.declared.transaction.Transaction.{Transaction}
 use Rattle.xo_list.specs.Item.{Item}
 use Rattle.xo_object.specs.Names.{transaction_type}
@@ -16,11 +17,7 @@ use Rattle.hk_reading.specs.Reading.{reading, of_fields, of_transaction}
 use Rattle.hk_reading.specs.Readings.{Reads, IsMalformed, longest}
 use Rattle.hk_reading.specs.Transactions.{transaction_of}
 use Rattle.hk_reading.proofs.FieldsFound.{fields_found}
-use Rattle.hk_reading.proofs.Finding.{none_some}
 use Rattle.hk_reading.proofs.TransactionsFound.{transaction_found}
-
-same_kind : (kind : Option ℕ) (m n : ℕ) → kind ≡ Some m → kind ≡ Some n → m ≡ n
-same_kind kind m n h k = let e : Some m ≡ Some n = sym h ∙ k in cc
 
 module _ (bytes : List ℕ) (fits : length bytes ≤ longest) where
   -- where no transaction is found, the kind is the one that isn't taken or there is none
@@ -32,7 +29,7 @@ module _ (bytes : List ℕ) (fits : length bytes ≤ longest) where
 
       at : (kind : ℕ) → number16 transaction_type fields ≡ Some kind → (kind ≡ 22) ⊎ (kind ≢ 22) → (number16 transaction_type fields ≡ Some 22) ⊎ ((t : Transaction) → IsTransaction fields bytes false t → ⊥)
       at kind e (inl same) = inl (e ∙ ap Some same)
-      at kind e (inr other) = inr (λ t is. never t is (λ h. other (same_kind (number16 transaction_type fields) kind t.kind e is.common.kind_is ∙ h)))
+      at kind e (inr other) = inr (λ t is. never t is (λ h. other (number_same (number16 transaction_type fields) kind t.kind e is.common.kind_is ∙ h)))
 
       either_way : (kind : ℕ) → (kind ≡ 22) ⊎ (kind ≢ 22)
       either_way kind = grind arith
@@ -55,7 +52,7 @@ module _ (bytes : List ℕ) (fits : length bytes ≤ longest) where
     where
       there : ((number16 transaction_type fields ≡ Some 22) ⊎ ((t : Transaction) → IsTransaction fields bytes false t → ⊥)) → (found : Option Transaction) → transaction_of fields bytes ≡ found → found ≡ None
       there wrong None e = refl
-      there (inl kind) (Some t) e = let is : IsTransaction fields bytes false t × (t.kind ≢ 22) = (transaction_found fields bytes).sound t e in absurd (is.1 (same_kind (number16 transaction_type fields) t.kind 22 is.0.common.kind_is kind))
+      there (inl kind) (Some t) e = let is : IsTransaction fields bytes false t × (t.kind ≢ 22) = (transaction_found fields bytes).sound t e in absurd (is.1 (number_same (number16 transaction_type fields) t.kind 22 is.0.common.kind_is kind))
       there (inr never) (Some t) e = let is : IsTransaction fields bytes false t × (t.kind ≢ 22) = (transaction_found fields bytes).sound t e in absurd (never t is.0)
 
   unparsed_only : (HasFields bytes → ⊥) → (found : Option (List Item)) → fields_of bytes ≡ found → found ≡ None

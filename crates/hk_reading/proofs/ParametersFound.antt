@@ -12,7 +12,8 @@ use Rattle.xo_list.specs.Value.{IsObject, IsArray}
 use Rattle.hk_reading.specs.Parsing.{fields_of, elements_of}
 use Rattle.hk_reading.specs.Transactions.{bytes_in, parameter_guess, is_parameter, parameter_of, parameter_in, made_of, differs, all_differ, differing, parameters_among, parameters_of}
 use Rattle.hk_reading.proofs.FieldsFound.{fields_found, elements_found}
-use Rattle.hk_reading.proofs.Finding.{Finds, some_same, finds_one, finds_if, finds_then, finds_map, finds_like, always, nat_same, nat_up_to, lists_same}
+use Rattle.xo_fields.proofs.Cases.{some_same}
+use Rattle.hk_reading.proofs.Finding.{Finds, finds_one, finds_if, finds_then, finds_map, finds_like, always, nat_same, nat_up_to, lists_same}
 
 -- a test, told by itself
 pub itself : (b : Bool) → Decides b (b ≡ true)

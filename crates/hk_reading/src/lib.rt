@@ -3,8 +3,6 @@
 
 mod laws;
 mod reading;
-#[cfg(test)]
-mod tests;
 
 pub use laws::reads_one_way;
 pub use reading::{Reading, read};

@@ -5,7 +5,8 @@ use Rattle.std.specs.Fmt.{decimal}
 use Rattle.hk_base.specs.Hexadecimal.{hex_text}
 use Rattle.hk_base.specs.declared.ids.Hash256.{Hash256}
 use Rattle.wa_ops.specs.HookRules.{is_hook}
-use Rattle.wa_exec.specs.Runs.{IsRun, OneEnding}
+use Rattle.wa_exec.specs.Runs.{OneEnding}
+use Rattle.wa_machine.specs.Runs.{IsRun}
 use Rattle.hk_lines.specs.Given.{ended}
 use Rattle.hk_lines.specs.OutputForms.{line_text}
 use Rattle.hk_lines.specs.declared.output_line.OutputLine.TheVariants as printed
@@ -16,7 +17,7 @@ use Rattle.hk_replay.specs.declared.command.Command.{Command}
 use Rattle.hk_replay.specs.declared.command.Command.TheVariants.{Hook, Replay, Other}
 use Rattle.hk_replay.specs.declared.command.Question.{Question}
 use Rattle.hk_replay.specs.declared.command.Question.TheVariants.{Check, Run}
-use Rattle.hk_replay.specs.Answers.{IsAccepted, IsRunOf, IsRefusal, Accepts, no_calls, cbak_text, IsReply, Replies, hook_lines, replay_lines, GivesFor, command_of, IsSame, OneAnswer}
+use Rattle.hk_replay.specs.Answers.{version, IsAccepted, IsRunOf, IsRefusal, Accepts, no_calls, cbak_text, IsReply, Replies, hook_lines, replay_lines, GivesFor, command_of, IsSame, OneAnswer}
 use Rattle.hk_replay.specs.Refusals.{refused_line}
 use Rattle.hk_replay.specs.Moved.{Answered}
 use Rattle.hk_bound.proofs.Verdicts.{one_refusal, holds_or_refused, one_module_held, one_hash, one_hook_bound, one_cbak_bound}
@@ -25,9 +26,9 @@ use Rattle.hk_bound.proofs.Verdicts.{one_refusal, holds_or_refused, one_module_h
 accepted_once : (code first second : List ℕ) → IsAccepted code first → IsAccepted code second → first ≡ second
 accepted_once code first second x y =
     x.line
-    ∙ ap (λ hash. line_of hash x.held.bound_hook x.held.bound_cbak) (one_hash code x.held y.held x.holds y.holds)
-    ∙ ap (λ bound. line_of y.held.hash bound x.held.bound_cbak) (one_hook_bound code x.held y.held x.holds y.holds)
-    ∙ ap (λ bound. line_of y.held.hash y.held.bound_hook bound) (one_cbak_bound code x.held y.held x.holds y.holds)
+    ∙ ap (λ hash. line_of hash x.held.bound_hook x.held.bound_cbak) (one_hash version code x.held y.held x.holds y.holds)
+    ∙ ap (λ bound. line_of y.held.hash bound x.held.bound_cbak) (one_hook_bound version code x.held y.held x.holds y.holds)
+    ∙ ap (λ bound. line_of y.held.hash y.held.bound_hook bound) (one_cbak_bound version code x.held y.held x.holds y.holds)
     ∙ sym y.line where
       line_of : Hash256 → ℕ → Option ℕ → List ℕ
       line_of hash bound cbak = codes "ok " ++ (hex_text hash.0 ++ (codes " hook " ++ (decimal bound ++ (codes " cbak " ++ (cbak_text cbak ++ 10 ∷ [])))))
@@ -35,12 +36,12 @@ accepted_once code first second x y =
 -- and its run has one
 run_once : OneEnding ℕ → (code first second : List ℕ) → IsRunOf code first → IsRunOf code second → first ≡ second
 run_once law code first second x y =
-    let run = subst (λ m. IsRun no_calls m is_hook 0 0 x.outcome x.count x.after) (one_module_held code x.held y.held x.holds y.holds) x.run in
+    let run = subst (λ m. IsRun no_calls m is_hook 0 0 x.outcome x.count x.after) (one_module_held version code x.held y.held x.holds y.holds) x.run in
     let same = law no_calls y.held.wasm is_hook 0 0 x.outcome y.outcome x.count y.count x.after y.after run y.run in
     x.line
     ∙ ap (λ outcome. line_text (printed.Run outcome x.count x.held.bound_hook)) same.0
     ∙ ap (λ count. line_text (printed.Run y.outcome count x.held.bound_hook)) same.1
-    ∙ ap (λ bound. line_text (printed.Run y.outcome y.count bound)) (one_hook_bound code x.held y.held x.holds y.holds)
+    ∙ ap (λ bound. line_text (printed.Run y.outcome y.count bound)) (one_hook_bound version code x.held y.held x.holds y.holds)
     ∙ sym y.line
 
 accepts_once : OneEnding ℕ → (question : Question) (code first second : List ℕ) → Accepts question code first → Accepts question code second → first ≡ second
@@ -49,8 +50,8 @@ accepts_once law Run code first second x y = run_once law code first second x y
 
 -- a code is accepted or refused
 accepted_not_refused : (question : Question) (code first second : List ℕ) → Accepts question code first → IsRefusal code second → ⊥
-accepted_not_refused Check code first second x y = holds_or_refused code x.held y.found x.holds y.refused y.named
-accepted_not_refused Run code first second x y = holds_or_refused code x.held y.found x.holds y.refused y.named
+accepted_not_refused Check code first second x y = holds_or_refused version code x.held y.found x.holds y.refused y.named
+accepted_not_refused Run code first second x y = holds_or_refused version code x.held y.found x.holds y.refused y.named
 
 -- a code has one answer
 one_reply : OneEnding ℕ → (question : Question) (code first second : List ℕ) (status other : Status) → IsReply question code first status → IsReply question code second other →
@@ -60,7 +61,7 @@ one_reply law question code first second Done HookRefused x y = absurd (accepted
 one_reply law question code first second Done other x y = absurd y
 one_reply law question code first second HookRefused Done x y = absurd (accepted_not_refused question code second first y x)
 one_reply law question code first second HookRefused HookRefused x y =
-    record { text = x.line ∙ ap refused_line (one_refusal code x.found y.found x.refused y.refused x.named y.named) ∙ sym y.line; answer = refl }
+    record { text = x.line ∙ ap refused_line (one_refusal version code x.found y.found x.refused y.refused x.named y.named) ∙ sym y.line; answer = refl }
 one_reply law question code first second HookRefused other x y = absurd y
 one_reply law question code first second status other x y = absurd x
 

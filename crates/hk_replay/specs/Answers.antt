@@ -6,11 +6,11 @@ use Rattle.hk_base.specs.Hexadecimal.{hex_text}
 use Rattle.hk_base.specs.declared.outcome.Outcome.{Outcome}
 use Rattle.wa_ops.specs.HookRules.{is_hook}
 use Rattle.wa_machine.specs.Machine.{HostMeaning}
-use Rattle.wa_run.specs.Calls.{meaning_of}
+use Rattle.wa_machine.specs.Runs.{IsRun}
+use Rattle.wa_machine.specs.Starts.{meaning_of}
 use Rattle.hk_bound.specs.Checks.{Held, Holds, IsRefused}
 use Rattle.hk_bound.specs.declared.fault.CheckFault.{CheckFault}
 use Rattle.hk_bound.specs.declared.fault.CheckFault.TheVariants as fault
-use Rattle.wa_exec.specs.Runs.{IsRun}
 use Rattle.hk_lines.specs.Given.{Close, ended, Given, given}
 use Rattle.hk_lines.specs.Numbers.{longest_input}
 use Rattle.hk_lines.specs.OutputForms.{line_text}
@@ -49,10 +49,14 @@ accepted_line held =
     codes "ok "
     ++ (hex_text held.hash.0 ++ (codes " hook " ++ (decimal held.bound_hook ++ (codes " cbak " ++ (cbak_text held.bound_cbak ++ 10 ∷ [])))))
 
+-- the version of the machine in which `check` and `run` take a code
+abbrev pub version : ℕ
+version = 0
+
 -- the code is accepted, and told so
 pub record IsAccepted (code text : List ℕ) : Type 0 where
   pub held : Held
-  pub holds : Holds code held
+  pub holds : Holds version code held
   pub line : text ≡ accepted_line held
 
 -- a host of no calls: it has one state
@@ -62,7 +66,7 @@ no_calls = meaning_of (λ state row arguments memory. pos 0) (λ state row argum
 -- the code is accepted, and the line is that of its `hook`, run with argument 0 to its end
 pub record IsRunOf (code text : List ℕ) : Type 0 where
   pub held : Held
-  pub holds : Holds code held
+  pub holds : Holds version code held
   pub outcome : Outcome
   pub count : ℕ
   pub after : ℕ
@@ -76,7 +80,7 @@ PrintedCounts = (code text : List ℕ) (answer : IsRunOf code text) → answer.c
 -- the code is refused, and told so
 pub record IsRefusal (code text : List ℕ) : Type 0 where
   pub found : CheckFault
-  pub refused : IsRefused code found
+  pub refused : IsRefused version code found
   pub named : found ≢ fault.NoMemory
   pub line : text ≡ refused_line found
 

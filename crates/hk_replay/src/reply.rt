@@ -2,7 +2,7 @@
 ghost use Rattle.std.specs.Prelude.{◌≡◌, List, ℕ, IfOk, string_bytes};
 ghost use Rattle.hk_base.specs.Hexadecimal.{hex_text};
 ghost use Rattle.hk_bound.specs.Checks.{Holds};
-ghost use Rattle.hk_replay.specs.Answers.{IsReply, IsRunOf, Accepts, accepted_line, cbak_text};
+ghost use Rattle.hk_replay.specs.Answers.{IsReply, IsRunOf, Accepts, accepted_line, cbak_text, version};
 
 use crate::command::Question;
 use crate::no_host::NoHost;
@@ -46,7 +46,7 @@ pub(crate) fn reply_to(alloc: Global, question: Question, code: &[u8]) -> Result
 
 // What an accepted code is answered.
 fn accepted(alloc: Global, question: Question, checked: &Checked) -> Result<Vec<u8>, NoMemory>
-    ensures accepts { IfOk result (λ text. (code : List ℕ) → Holds code checked.now → Accepts question code text.items) }
+    ensures accepts { IfOk result (λ text. (code : List ℕ) → Holds version code checked.now → Accepts question code text.items) }
 {
     match question {
         Question::Check => {
@@ -86,7 +86,7 @@ fn cbak_text(alloc: Global, bound: Option<u64>) -> Result<String, NoMemory>
 
 // Runs `hook` with argument 0, and answers the line of its ending.
 fn run_to_end(alloc: Global, checked: &Checked) -> Result<Vec<u8>, NoMemory>
-    ensures line { IfOk result (λ text. (code : List ℕ) → Holds code checked.now → IsRunOf code text.items) }
+    ensures line { IfOk result (λ text. (code : List ℕ) → Holds version code checked.now → IsRunOf code text.items) }
 {
     let instance = Instance::new(alloc, checked, Export::Hook, 0)?;
     let mut host = NoHost;

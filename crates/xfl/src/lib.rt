@@ -12,6 +12,3 @@ pub use arithmetic::{divide, from_drops, invert, mulratio, multiply, set, sum, t
 pub use fault::XflFault;
 pub use laws::{one_cut, one_to_one};
 pub use value::Xfl;
-
-#[cfg(test)]
-mod tests;

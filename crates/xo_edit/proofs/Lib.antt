@@ -1,4 +1,2 @@
-pub mod ListLemmas
-pub mod Reading
 pub mod Places
 pub mod Splices

@@ -18,8 +18,10 @@ use Rattle.xo_list.specs.Located.{Locates}
 use Rattle.xo_list.specs.Span.{part, FindsElement}
 use Rattle.xo_list.specs.Value.{IsObject, IsArray}
 use Rattle.xo_edit.specs.Part.{IsFieldAt, IsElementAt, LacksField, LacksElement}
-use Rattle.xo_edit.proofs.ListLemmas.{spell-append, lookup_at, lookup_absent}
-use Rattle.xo_edit.proofs.Reading.{same_fields, same_elements}
+use Rattle.xo_fields.proofs.Cases.{some_same, none_some}
+use Rattle.xo_list.proofs.Cuts.{lookup_at, lookup_absent}
+use Rattle.xo_list.proofs.OneList.{same_fields, same_elements}
+use Rattle.xo_list.proofs.Placing.{spell-append}
 
 abbrev mark : Option Form → List ℕ
 mark None = []
@@ -78,12 +80,9 @@ field_lacks bytes field items at object (before, after, cuts, whole) = (items, o
 pub located_value : (bytes : List ℕ) (field : FieldId) (items : List Item) (from : ℕ) (value : Span) (to : ℕ) → Locates bytes field items (Found from value to) → lookup field items ≡ Some (part bytes value.from value.to)
 located_value bytes field items from value to (before, after, cuts, whole, order, within, exact) = ap (lookup field) whole ∙ lookup_at field (part bytes value.from value.to) before after cuts.below
 
-some_none : (v : List ℕ) → Some v ≡ None → ⊥
-some_none v e = cc
-
 pub field_there : OneReading → (bytes : List ℕ) (field : FieldId) (items : List Item) (from : ℕ) (value : Span) (to : ℕ) → IsObject items bytes → Locates bytes field items (Found from value to) → LacksField bytes field → ⊥
 field_there one bytes field items from value to object l (others, there, none) =
-    some_none (part bytes value.from value.to) (sym (located_value bytes field items from value to l) ∙ ap (lookup field) (same_fields one items others bytes object there) ∙ none)
+    none_some (part bytes value.from value.to) (sym (sym (located_value bytes field items from value to l) ∙ ap (lookup field) (same_fields one items others bytes object there) ∙ none))
 
 -- a slice up to the end
 pub all_left : (bytes : List ℕ) (at : ℕ) → take (length bytes - at) (drop at bytes) ≡ drop at bytes
@@ -102,10 +101,7 @@ spell_none (x ∷ xs) e = absurd (omega (arith, spell_some x xs, e))
 -- a list, cut at one of its elements
 cut_list : (xs : List Item) (i : ℕ) (x : Item) → slice_get xs i ≡ Some x → (before : List Item) × (after : List Item) × (xs ≡ before ++ x ∷ after) × (length before ≡ i) × (take i xs ≡ before)
 cut_list [] i x e = absurd (omega (arith, slice_get_within [] i x e))
-cut_list (y ∷ ys) zero x e = ([], ys, ap (λ z. z ∷ ys) (same_item y x e), refl, refl)
-  where
-    same_item : (y x : Item) → Some y ≡ Some x → y ≡ x
-    same_item y x e = cc
+cut_list (y ∷ ys) zero x e = ([], ys, ap (λ z. z ∷ ys) (some_same y x e), refl, refl)
 cut_list (y ∷ ys) (suc i) x e =
     let rest : (before : List Item) × (after : List Item) × (ys ≡ before ++ x ∷ after) × (length before ≡ i) × (take i ys ≡ before) = cut_list ys i x e in
     (y ∷ rest.0, rest.1, ap (λ l. y ∷ l) rest.2, omega (arith, rest.3), ap (λ l. y ∷ l) rest.4)

@@ -11,9 +11,10 @@ use Rattle.xo_list.specs.Located.{AllBelow, AllAbove, Locates}
 use Rattle.xo_list.specs.Span.{part}
 use Rattle.xo_list.specs.Value.{IsObject, HasFields}
 use Rattle.xo_edit.specs.Edit.{IsOne, IsField, Emplaces, Erases}
-use Rattle.xo_edit.proofs.ListLemmas.{spell-append, without_at, with_new, with_present}
+use Rattle.xo_list.proofs.Cuts.{without_at, with_new, with_present}
+use Rattle.xo_list.proofs.OneList.{same_fields}
+use Rattle.xo_list.proofs.Placing.{spell-append}
 use Rattle.xo_edit.proofs.Places.{located_value, spell_none}
-use Rattle.xo_edit.proofs.Reading.{same_fields}
 
 -- the bytes without a field that was located
 pub erased : OneSpelling → Edits → (bytes : List ℕ) (field : FieldId) (items : List Item) (from : ℕ) (value : Span) (to : ℕ) → IsObject items bytes → Locates bytes field items (Found from value to) →

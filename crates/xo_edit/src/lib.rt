@@ -8,6 +8,3 @@ mod part;
 pub use edit::{emplace, erase};
 pub use fault::EditFault;
 pub use part::{subarray, subfield, validate};
-
-#[cfg(test)]
-mod tests;

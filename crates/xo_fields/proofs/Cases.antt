@@ -1,5 +1,5 @@
--- Cases on a test, for a fact of the answer.
-use Rattle.std.proofs.Common.{◌≡◌, ℕ, Bool, true, false, if◌then◌else◌, refl, List, get_or, ◌<◌, ◌≤◌, ◌==◌, nat_lt, arith}
+-- Cases on a test, for a fact of the answer, and what an option has.
+use Rattle.std.proofs.Common.{◌≡◌, ℕ, Bool, true, false, if◌then◌else◌, refl, List, get_or, ◌<◌, ◌≤◌, ◌==◌, nat_lt, nat_eq, IsTrue, arith, Some, None}
 use Rattle.std.proofs.lemmas.Bool.Decides.{nat_tests}
 
 -- each item of the list is a byte
@@ -31,3 +31,15 @@ pick_below P m n x y below above = pick P (nat_lt m n) x y (λ e. below (below_f
 
 pub pick_equal : {A : Type 0} (P : A → Type 0) (m n : ℕ) (x y : A) → (m ≡ n → P x) → ((m ≡ n → ⊥) → P y) → P (if m == n then x else y)
 pick_equal P m n x y same other = pick P (m == n) x y (λ e. same (equal_from m n e)) (λ e. other (other_from m n e))
+
+pub same_size : (m n : ℕ) → IsTrue (nat_eq m n) → m ≡ n
+same_size m n t = grind (arith, nat_tests)
+
+pub size_same : (m n : ℕ) → m ≡ n → IsTrue (nat_eq m n)
+size_same m n e = grind (arith, nat_tests)
+
+pub some_same : {A : Type 0} (x y : A) → Some x ≡ Some y → x ≡ y
+some_same x y e = cc
+
+pub none_some : {A : Type 0} {P : Type 0} (x : A) → None ≡ Some x → P
+none_some x e = absurd cc

@@ -8,8 +8,6 @@ mod header;
 mod laws;
 mod length;
 mod name;
-#[cfg(test)]
-mod tests;
 
 pub use amount::{Amount, AmountRead, read_amount, write_amount};
 pub use field::FieldId;

@@ -1,21 +1,18 @@
 -- What a builder keeps and writes.
-use Rattle.std.proofs.Common.{◌≡◌, ℕ, zero, suc, ◌+◌, ◌<◌, ◌≤◌, Bool, true, false, List, [], ◌∷◌, ◌++◌, length, take, drop, get_or, refl, sym, ap, subst, ◌∙◌, arith, append-nil, length-drop, Option, Some, None, IsTrue, IsSome, if◌then◌else◌, nat_lt, nat_eq}
+use Rattle.std.proofs.Common.{◌≡◌, ℕ, zero, suc, ◌+◌, ◌<◌, ◌≤◌, Bool, true, false, List, [], ◌∷◌, ◌++◌, length, take, drop, get_or, refl, sym, ap, subst, ◌∙◌, arith, append-nil, length-drop, Option, Some, None, IsTrue, IsSome, if◌then◌else◌, nat_eq}
 use Rattle.std.proofs.lemmas.Bool.Decides.{nat_tests}
 use Rattle.std.proofs.lemmas.List.{take-append-drop, take_all, drop_more, take_more, map-append}
 use Rattle.xo_fields.specs.declared.amount.Amount.{Amount}
 use Rattle.xo_fields.specs.declared.amount.AmountRead.TheVariants as amounts
 use Rattle.xo_fields.specs.declared.field.FieldId.{FieldId}
 use Rattle.xo_fields.specs.declared.form.Form.{Form}
-use Rattle.xo_fields.specs.declared.form.Form.TheVariants.{Object, Array}
 use Rattle.xo_fields.specs.Amount.{IsAmount, AmountGives, amount_bytes}
 use Rattle.xo_fields.specs.Field.{number}
 use Rattle.xo_fields.specs.Header.{IsField}
 use Rattle.xo_fields.specs.Laws.{OneAmount}
+use Rattle.xo_fields.proofs.Cases.{same_size, size_same}
 use Rattle.xo_list.specs.declared.builder.Put.{Put}
-use Rattle.xo_list.specs.declared.fault.ObjectFault.{ObjectFault}
-use Rattle.xo_list.specs.declared.skip.Place.TheVariants.{Fields, Elements}
 use Rattle.xo_list.specs.Builder.{puts, item_put, IsFree}
-use Rattle.xo_list.specs.Fault.{ends, fails, Reads}
 use Rattle.xo_list.specs.Item.{Item, lookup, is_same, spell, with_item}
 use Rattle.xo_list.specs.Laws.{OneReading, OneSpelling}
 use Rattle.xo_list.specs.List.{ListFits, IsList, IsFit}
@@ -23,22 +20,13 @@ use Rattle.xo_list.specs.Located.{AllBelow, AllAbove}
 use Rattle.xo_list.specs.Span.{IsRead, Seen, items}
 use Rattle.xo_list.specs.Value.{IsValue, IsObject}
 use Rattle.xo_list.proofs.ListLemmas.{edits_fit}
-use Rattle.xo_list.proofs.Parts.{asks_less}
 use Rattle.xo_list.proofs.Placing.{spell-append}
-use Rattle.xo_list.proofs.Walk.{lookup_below, lookup_above}
-
-pub never_true : IsTrue false → ⊥
-never_true t = cc
+use Rattle.xo_list.proofs.Cuts.{same_field, AllBelow-append, lookup_absent, with_new}
+use Rattle.xo_list.proofs.OneList.{never_true, same_fields}
 
 -- whether the bytes are an amount and no more
 pub amount_refused : (value : List ℕ) → AmountGives value amounts.Bad → (IsTrue false → IsAmount value) × (IsAmount value → IsTrue false)
 amount_refused value h = (λ t. absurd (never_true t), λ is. absurd (h.0 (value, [], is, sym (append-nil value))))
-
-same_size : (m n : ℕ) → IsTrue (nat_eq m n) → m ≡ n
-same_size m n t = grind (arith, nat_tests)
-
-size_same : (m n : ℕ) → m ≡ n → IsTrue (nat_eq m n)
-size_same m n e = grind (arith, nat_tests)
 
 pub amount_whole : OneAmount → (value : List ℕ) (a : Amount) (size : ℕ) → AmountGives value (amounts.Amount a size) →
     (IsTrue (nat_eq size (length value)) → IsAmount value) × (IsAmount value → IsTrue (nat_eq size (length value)))
@@ -49,23 +37,6 @@ amount_whole one value a size h = (
       one a b (drop size value) [] h.0 valid (ap (λ x. x ++ drop size value) (sym h.2) ∙ take-append-drop size value ∙ is ∙ sym (append-nil (amount_bytes b))) in
       size_same size (length value) (omega (arith, h.1, ap length rest.1, length-drop size value)),
 )
-
--- whether the bytes are fields or elements and no more
-pub fields_whole : (value rest : List ℕ) → Reads 9 Fields 0 value (ends rest) → IsValue 10 Object value
-fields_whole value rest (items, h) = (items, asks_less (IsValue 9) false _ _ (λ last left e. e.0) 0 items value h)
-
-pub elements_whole : (value rest : List ℕ) → Reads 9 Elements 0 value (ends rest) → IsValue 10 Array value
-elements_whole value rest (items, h) = (items, asks_less (IsValue 9) true _ _ (λ last left e. e.0) 0 items value h)
-
-pub fields_or_fault : OneReading → (value : List ℕ) (fault : ObjectFault) → Reads 9 Fields 0 value (fails fault) → IsValue 10 Object value → ⊥
-fields_or_fault one value fault (b, k) (a, h) =
-    let same : (a ≡ b) × (ends [] ≡ fails fault) = one 9 Fields a b value (ends []) (fails fault) (asks_less (IsValue 9) false _ _ (λ last left e. (e, refl)) 0 a value h) k in
-    let e : ends [] ≡ fails fault = same.1 in cc
-
-pub elements_or_fault : OneReading → (value : List ℕ) (fault : ObjectFault) → Reads 9 Elements 0 value (fails fault) → IsValue 10 Array value → ⊥
-elements_or_fault one value fault (b, k) (a, h) =
-    let same : (a ≡ b) × (ends [] ≡ fails fault) = one 9 Elements a b value (ends []) (fails fault) (asks_less (IsValue 9) true _ _ (λ last left e. (e, refl)) 0 a value h) k in
-    let e : ends [] ≡ fails fault = same.1 in cc
 
 -- the fields above one in a list that fits
 above_rest : (fits : Form → List ℕ → Type 0) (n last : ℕ) (items : List Item) → n ≤ last → ListFits fits false last items → AllAbove n items
@@ -93,13 +64,6 @@ puts_cut : (fields : List Put) (i : ℕ) (d : Put) → i < length fields → put
 puts_cut fields i d h =
     ap puts (sym (take-append-drop i fields)) ∙ map-append item_put (take i fields) (drop i fields) ∙ ap (λ x. puts (take i fields) ++ puts x) (drop_more fields i d h)
 
-same_field : (f g : FieldId) → f.code < 256 → g.code < 256 → number f ≡ number g → f ≡ g
-same_field f g fc gc e =
-    let kinds : f.kind ≡ g.kind = omega arith in let codes : f.code ≡ g.code = omega arith in ap (λ k. made k f.code) kinds ∙ ap (λ n. made g.kind n) codes
-  where
-    made : ℕ → ℕ → FieldId
-    made k n = record { kind = k; code = n }
-
 pub free_before : (field : FieldId) (fields : List Put) (i : ℕ) (d : Put) → IsList (puts fields) → i < length fields → AllBelow (number field) (puts (take i fields)) → number field < number (get_or fields i d).field → IsFree field fields (Some i)
 free_before field fields i d h within below less = (
   omega arith,
@@ -113,14 +77,10 @@ put_before field fields i d within small byte e =
     subst (λ xs. IsSome (lookup field xs)) (sym (puts_cut fields i d within))
     (found_after field (puts (take i fields)) (item_put (get_or fields i d)) (puts (drop (i + 1) fields)) (sym (same_field field (get_or fields i d).field small byte e)))
 
-below_append : (n : ℕ) (a b : List Item) → AllBelow n a → AllBelow n b → AllBelow n (a ++ b)
-below_append n [] b h k = k
-below_append n (x ∷ xs) b h k = (h.0, below_append n xs b h.1 k)
-
 pub below_more : (field : FieldId) (fields : List Put) (i : ℕ) (d : Put) → i < length fields → AllBelow (number field) (puts (take i fields)) → number (get_or fields i d).field < number field → AllBelow (number field) (puts (take (i + 1) fields))
 below_more field fields i d within below less =
     subst (λ x. AllBelow (number field) x) (sym (ap puts (take_more fields i d within) ∙ map-append item_put (take i fields) (get_or fields i d ∷ [])))
-    (below_append (number field) (puts (take i fields)) (item_put (get_or fields i d) ∷ []) below (less, tt))
+    (AllBelow-append (number field) (puts (take i fields)) (item_put (get_or fields i d) ∷ []) below (less, tt))
 
 -- each field that was put fits
 fit_of : (fields : List Put) (last i : ℕ) (d : Put) → ListFits (IsValue 10) false last (puts fields) → i < length fields → IsFit (get_or fields i d).field (get_or fields i d).value.items
@@ -132,30 +92,10 @@ pub fit_at : (fields : List Put) (i : ℕ) (d : Put) → IsList (puts fields) �
 fit_at fields i d h within = fit_of fields 0 i d h within
 
 -- a field put in its place
-with_at : (x : Item) (a b : List Item) → AllBelow (number x.field) a → AllAbove (number x.field) b → with_item x (a ++ b) ≡ a ++ x ∷ b
-with_at x [] [] below above = refl
-with_at x [] (y ∷ ys) below above = ways (nat_lt (number x.field) (number y.field)) refl
-  where
-    ways : (less : Bool) → nat_lt (number x.field) (number y.field) ≡ less →
-        (if less then x ∷ y ∷ ys else if nat_lt (number y.field) (number x.field) then y ∷ with_item x ys else x ∷ ys) ≡ x ∷ y ∷ ys
-    ways true e = refl
-    ways false e = absurd (grind (arith, nat_tests, above.0))
-with_at x (y ∷ ys) b below above = first (nat_lt (number x.field) (number y.field)) refl (with_at x ys b below.1 above)
-  where
-    second : (less : Bool) → nat_lt (number y.field) (number x.field) ≡ less → with_item x (ys ++ b) ≡ ys ++ x ∷ b →
-        (if less then y ∷ with_item x (ys ++ b) else x ∷ (ys ++ b)) ≡ y ∷ (ys ++ x ∷ b)
-    second true e later = ap (λ t. y ∷ t) later
-    second false e later = absurd (grind (arith, nat_tests, below.0))
-
-    first : (less : Bool) → nat_lt (number x.field) (number y.field) ≡ less → with_item x (ys ++ b) ≡ ys ++ x ∷ b →
-        (if less then x ∷ y ∷ (ys ++ b) else if nat_lt (number y.field) (number x.field) then y ∷ with_item x (ys ++ b) else x ∷ (ys ++ b)) ≡ y ∷ (ys ++ x ∷ b)
-    first true e later = absurd (grind (arith, nat_tests, below.0))
-    first false e later = second (nat_lt (number y.field) (number x.field)) refl later
-
 pub put_at : (fields : List Put) (p : Put) (i : ℕ) → IsFree p.field fields (Some i) → puts (take i fields ++ p ∷ drop i fields) ≡ with_item (item_put p) (puts fields)
 put_at fields p i (within, below, above) =
     map-append item_put (take i fields) (p ∷ drop i fields)
-    ∙ sym (with_at (item_put p) (puts (take i fields)) (puts (drop i fields)) below above)
+    ∙ sym (with_new (item_put p) (puts (take i fields)) (puts (drop i fields)) below above)
     ∙ ap (with_item (item_put p)) (sym (map-append item_put (take i fields) (drop i fields)) ∙ ap puts (take-append-drop i fields))
 
 number-pos : (f : FieldId) → IsField f → 0 < number f
@@ -167,16 +107,13 @@ list_more list field value h (form, is, known, fit) =
 
 -- the object of the list
 pub finished : OneReading → OneSpelling → (list : List Item) (object : Seen) → IsList list → object.bytes ≡ spell list → IsRead object.bytes object.spans → items object ≡ list
-finished one spelling list object h e read =
-    let there : IsObject list object.bytes = subst (λ b. IsObject list b) (sym e) (spelling.1 list h) in
-    (one 10 Fields (items object) list object.bytes (ends []) (ends []) (asks_less (IsValue 10) false _ _ (λ last left k. (k, refl)) 0 (items object) object.bytes read.object)
-    (asks_less (IsValue 10) false _ _ (λ last left k. (k, refl)) 0 list object.bytes there)).0
+finished one spelling list object h e read = same_fields one (items object) list object.bytes read.object (subst (λ b. IsObject list b) (sym e) (spelling.1 list h))
 
 -- a field that has a place wasn't put before
 pub free_absent : (field : FieldId) (fields : List Put) (i : ℕ) → IsFree field fields (Some i) → lookup field (puts fields) ≡ None
 free_absent field fields i (within, below, above) =
     ap (lookup field) (ap puts (sym (take-append-drop i fields)) ∙ map-append item_put (take i fields) (drop i fields))
-    ∙ lookup_below field (puts (take i fields)) (puts (drop i fields)) below ∙ lookup_above field (puts (drop i fields)) above
+    ∙ lookup_absent field (puts (take i fields)) (puts (drop i fields)) below above
 
 none_or_some : (o : Option (List ℕ)) → o ≡ None → IsSome o → ⊥
 none_or_some o e s = let t : IsSome {T = List ℕ} None = subst (λ p. IsSome p) e s in absurd (cc)

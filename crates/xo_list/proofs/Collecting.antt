@@ -9,10 +9,9 @@ use Rattle.xo_list.specs.declared.fault.ObjectFault.{ObjectFault}
 use Rattle.xo_list.specs.declared.skip.Place.{Place}
 use Rattle.xo_list.specs.declared.skip.Place.TheVariants.{Fields, Elements}
 use Rattle.xo_list.specs.Collected.{Collects}
-use Rattle.xo_list.specs.Laws.{OneReading}
 use Rattle.xo_list.specs.declared.span.Span.{Span}
 use Rattle.xo_list.specs.Item.{Item, lead, spell}
-use Rattle.xo_list.specs.Value.{Head, IsValue, IsArray, HasElements}
+use Rattle.xo_list.specs.Value.{Head, IsValue, IsArray}
 use Rattle.xo_list.specs.Fault.{is_array, IsEnd, IsNoEnd, HeadFails, BodyFails, Outcome, ends, fails, Comes, Reads}
 use Rattle.xo_list.specs.Span.{part, item_of, items_of, value_span, places, InOrder, InRange, IsRead, Valued}
 use Rattle.xo_list.proofs.Parts.{asks_less}
@@ -75,8 +74,3 @@ object_read bytes spans c = record { object = asks_less (IsValue 10) false _ _ (
 
 pub array_read : (bytes : List ℕ) (spans : List (FieldId × Span)) → Collects 9 Elements bytes spans → IsArray (items_of bytes spans) bytes
 array_read bytes spans c = asks_less (IsValue 9) true _ _ (λ n rest h. h.0) 0 (items_of bytes spans) bytes c.comes.1
-
-pub array_or_fault : OneReading → (bytes : List ℕ) (fault : ObjectFault) → Reads 9 Elements 0 bytes (fails fault) → HasElements bytes → ⊥
-array_or_fault one bytes fault (b, k) (a, h) =
-    let same : (a ≡ b) × (ends [] ≡ fails fault) = one 9 Elements a b bytes (ends []) (fails fault) (asks_less (IsValue 9) true _ _ (λ last left e. (e, refl)) 0 a bytes h) k in
-    let e : ends [] ≡ fails fault = same.1 in cc

@@ -3,6 +3,8 @@ pub mod Leads
 pub mod NoWant
 pub mod OneWay
 pub mod ListLemmas
+pub mod Cuts
+pub mod OneList
 pub mod Placing
 pub mod Collecting
 pub mod Walk

@@ -1,7 +1,7 @@
 -- Bytes are read in one way.
-use Rattle.std.proofs.Common.{◌≡◌, ℕ, zero, suc, ◌≤◌, ◌⊎◌, inl, inr, Bool, true, false, List, [], ◌∷◌, ◌++◌, length, take, drop, refl, sym, ap, subst, ◌∙◌, arith, append_assoc, length-append, Some, IsSome}
+use Rattle.std.proofs.Common.{◌≡◌, ℕ, zero, suc, ◌≤◌, ◌⊎◌, inl, inr, Bool, true, false, List, [], ◌∷◌, ◌++◌, length, take, refl, sym, ap, subst, ◌∙◌, arith, append_assoc, length-append, Some, IsSome}
 use Rattle.std.proofs.lemmas.Bool.Decides.{nat_tests}
-use Rattle.std.proofs.lemmas.List.{take_at, drop_at, append_cancel_right}
+use Rattle.std.proofs.lemmas.List.{take_at, append_cancel_right}
 use Rattle.xo_fields.specs.declared.field.FieldId.{FieldId}
 use Rattle.xo_fields.specs.declared.form.Form.{Form}
 use Rattle.xo_fields.specs.declared.form.Form.TheVariants.{Fixed, Money, Blob, Account, Object, Array}
@@ -25,6 +25,7 @@ use Rattle.xo_list.specs.Value.{Allowed, Head, Stands, Whole, IsValue}
 use Rattle.xo_list.specs.Fault.{is_array, IsEnd, Outcome, ends, fails, HeaderFault, FieldFails, Meets, Comes, AmountFault, BlobFault, AccountFault, BodyFails}
 use Rattle.xo_list.specs.Laws.{OneReading, OneField}
 use Rattle.xo_list.proofs.Parts.{disclosed}
+use Rattle.xo_fields.proofs.OneAnswer.{split_same}
 
 -- the laws of headers, lengths and amounts
 pub record Below : Type 0 where
@@ -40,13 +41,6 @@ pub record OneBody (fits : Form → List ℕ → Type 0) (inside : Form → List
   pub value : (v w rest more : List ℕ) → fits form v → fits form w → body form v ++ rest ≡ body form w ++ more → (v ≡ w) × (rest ≡ more)
   pub clear : (v rest : List ℕ) (fault : ObjectFault) → fits form v → inside form (body form v ++ rest) fault → ⊥
   pub fault : (bytes : List ℕ) (f g : ObjectFault) → inside form bytes f → inside form bytes g → f ≡ g
-
--- lists of one length that go on to one list
-pub split_same : (p q x y : List ℕ) → length p ≡ length q → p ++ x ≡ q ++ y → (p ≡ q) × (x ≡ y)
-split_same p q x y l e = (
-  sym (take_at p x (length p) refl) ∙ ap (take (length p)) e ∙ take_at q y (length p) (sym l),
-  sym (drop_at p x (length p) refl) ∙ ap (drop (length p)) e ∙ drop_at q y (length p) (sym l),
-)
 
 -- forms of one kind are one
 same_form : (kind : ℕ) (form other : Form) → form_at kind ≡ Some form → form_at kind ≡ Some other → form ≡ other

@@ -11,6 +11,7 @@ use Rattle.xo_list.specs.Item.{Item, body, body_of, lead, opening, spell, is_sam
 use Rattle.xo_list.specs.Located.{AllBelow, AllAbove}
 use Rattle.xo_list.specs.Span.{part, value_span, places, place_of, InOrder, Valued}
 use Rattle.xo_list.specs.Value.{Head}
+use Rattle.xo_list.proofs.Cuts.{same_itself}
 
 pub spell-append : (a b : List Item) → spell (a ++ b) ≡ spell a ++ spell b
 spell-append [] b = refl
@@ -80,9 +81,6 @@ place_above f at (x ∷ xs) h = other (is_same x.field f) refl ∙ place_above f
     other : (same : Bool) → is_same x.field f ≡ same → (if same then Some (value_span at x) else place_of f (places (at + length (spell (x ∷ []))) xs)) ≡ place_of f (places (at + length (spell (x ∷ []))) xs)
     other true e = absurd (grind (arith, nat_tests, h.0))
     other false e = refl
-
-same_itself : (f : FieldId) → is_same f f ≡ true
-same_itself f = grind (arith, nat_tests)
 
 pub place_first : (f : FieldId) (at : ℕ) (value : List ℕ) (b : List Item) → place_of f (places at (record { field = f; value = value } ∷ b)) ≡ Some (value_span at (record { field = f; value = value }))
 place_first f at value b =

@@ -1,6 +1,6 @@
 -- The loops that look for a field, and pass over elements.
 use Rattle.std.proofs.Common.{◌≡◌, ℕ, ◌+◌, ◌-◌, ◌<◌, ◌≤◌, Bool, true, false, List, [], ◌∷◌, ◌++◌, length, take, drop, refl, sym, ap, subst, ◌∙◌, arith, append_assoc, append-nil, length-append, length-take, length-drop, inl, inr, Some, None, ◌⊎◌}
-use Rattle.std.specs.Prelude.{slice_get, if◌then◌else◌}
+use Rattle.std.specs.Prelude.{slice_get}
 use Rattle.std.proofs.lemmas.Bool.Decides.{nat_tests}
 use Rattle.std.proofs.lemmas.List.{drop_all, take_at}
 use Rattle.std.proofs.Math.Seq.{take-add}
@@ -13,19 +13,16 @@ use Rattle.xo_list.specs.declared.fault.ObjectFault.{ObjectFault}
 use Rattle.xo_list.specs.declared.find.Located.TheVariants.{Found, Absent}
 use Rattle.xo_list.specs.declared.find.Passed.{Passed}
 use Rattle.xo_list.specs.declared.span.Span.{Span}
-use Rattle.xo_list.specs.Item.{Item, body, body_of, lead, spell, lookup, is_same}
+use Rattle.xo_list.specs.Item.{Item, body, body_of, lead, spell, lookup}
 use Rattle.xo_list.specs.Value.{Head, Stands, Goes, IsValue, IsObject, IsArray}
 use Rattle.xo_list.specs.Fault.{HeadFails, BodyFails}
 use Rattle.xo_list.specs.Span.{part, value_span, places, place_of, Valued, FindsElement, FindsValue}
 use Rattle.xo_list.specs.Located.{AllBelow, AllAbove, Locates, Passes}
 use Rattle.xo_list.specs.Laws.{OneField}
+use Rattle.xo_list.proofs.Cuts.{same_field, AllBelow-append, lookup_at, lookup_absent}
 use Rattle.xo_list.proofs.Leads.{field_stands}
 use Rattle.xo_list.proofs.ListLemmas.{listed}
 use Rattle.xo_list.proofs.Placing.{spell-append, spell_sum, value_stands, place_below, place_above, place_first}
-
-AllBelow-append : (n : ℕ) (a b : List Item) → AllBelow n a → AllBelow n b → AllBelow n (a ++ b)
-AllBelow-append n [] b h k = k
-AllBelow-append n (x ∷ xs) b h k = (h.0, AllBelow-append n xs b h.1 k)
 
 -- fields that rise from a number on are above it
 rising_above : (fits : Form → List ℕ → Type 0) (n last : ℕ) (items : List Item) (bytes : List ℕ) → n ≤ last → Goes fits false last items bytes (λ _ rest. rest ≡ []) → AllAbove n items
@@ -132,13 +129,6 @@ next_is one bytes field items last at f form tail value next b more h v =
       t,
       subst (λ r. Goes (IsValue 10) false (number f) n.1 r (λ _ rest. rest ≡ [])) same.1 (subst (λ (x : Item). Goes (IsValue 10) false (number x.field) n.1 n.2 (λ _ rest. rest ≡ [])) same.0 n.5),
     )
-
-same_field : (f g : FieldId) → f.code < 256 → g.code < 256 → number f ≡ number g → f ≡ g
-same_field f g fc gc e =
-    let kinds : f.kind ≡ g.kind = omega arith in let codes : f.code ≡ g.code = omega arith in ap (λ k. made k f.code) kinds ∙ ap (λ n. made g.kind n) codes
-  where
-    made : ℕ → ℕ → FieldId
-    made k n = record { kind = k; code = n }
 
 pub found_here : OneField → (bytes : List ℕ) (field : FieldId) (items : List Item) (last at : ℕ) (f : FieldId) (form : Form) (start : ℕ) (span : Span) (next : ℕ) → Behind bytes field items last at → at < length bytes →
     Head false last f form (drop at bytes) (drop start bytes) → Valued 10 form (drop start bytes) (part bytes span.from span.to) (drop next bytes) → start ≤ length bytes → span.from ≤ span.to → span.to ≤ length bytes → next ≤ length bytes →
@@ -302,34 +292,12 @@ element_found one bytes elements index passed f form tail value next p enough mo
     (place.0, there, (x, ap (λ xs. slice_get xs index) (b.whole ∙ ap (λ xs. b.before ++ xs) n.1) ∙ ap (λ i. slice_get (b.before ++ x ∷ n.0) i) at_index ∙ nth b.before x n.0, place.1), front)
 
 -- what is located is what lookup finds
-pub lookup_below : (f : FieldId) (a b : List Item) → AllBelow (number f) a → lookup f (a ++ b) ≡ lookup f b
-lookup_below f [] b h = refl
-lookup_below f (x ∷ xs) b h = other (is_same x.field f) refl ∙ lookup_below f xs b h.1
-  where
-    other : (same : Bool) → is_same x.field f ≡ same → (if same then Some x.value else lookup f (xs ++ b)) ≡ lookup f (xs ++ b)
-    other true e = absurd (grind (arith, nat_tests, h.0))
-    other false e = refl
-
-pub lookup_above : (f : FieldId) (b : List Item) → AllAbove (number f) b → lookup f b ≡ None
-lookup_above f [] h = refl
-lookup_above f (x ∷ xs) h = other (is_same x.field f) refl ∙ lookup_above f xs h.1
-  where
-    other : (same : Bool) → is_same x.field f ≡ same → (if same then Some x.value else lookup f xs) ≡ lookup f xs
-    other true e = absurd (grind (arith, nat_tests, h.0))
-    other false e = refl
-
-same_itself : (f : FieldId) → is_same f f ≡ true
-same_itself f = grind (arith, nat_tests)
-
-lookup_first : (f : FieldId) (value : List ℕ) (b : List Item) → lookup f (record { field = f; value = value } ∷ b) ≡ Some value
-lookup_first f value b = ap (λ same. if same then Some value else lookup f b) (same_itself f)
-
 pub found_value : (bytes : List ℕ) (field : FieldId) (items : List Item) (from : ℕ) (value : Span) (to : ℕ) → Locates bytes field items (Found from value to) → FindsValue bytes (lookup field items) (Some value)
 found_value bytes field items from value to (before, after, cuts, whole, order, within, exact) =
-    (order, within, ap (lookup field) whole ∙ lookup_below field before _ cuts.below ∙ lookup_first field (part bytes value.from value.to) after)
+    (order, within, ap (lookup field) whole ∙ lookup_at field (part bytes value.from value.to) before after cuts.below)
 
 pub absent_value : (bytes : List ℕ) (field : FieldId) (items : List Item) (at : ℕ) → Locates bytes field items (Absent at) → FindsValue bytes (lookup field items) None
-absent_value bytes field items at (before, after, cuts, whole) = ap (lookup field) whole ∙ lookup_below field before after cuts.below ∙ lookup_above field after cuts.above
+absent_value bytes field items at (before, after, cuts, whole) = ap (lookup field) whole ∙ lookup_absent field before after cuts.below cuts.above
 
 pub found_place : (bytes : List ℕ) (field : FieldId) (items : List Item) (from : ℕ) (value : Span) (to : ℕ) → Locates bytes field items (Found from value to) → Some value ≡ place_of field (places 0 items)
 found_place bytes field items from value to (before, after, cuts, whole, order, within, exact) =

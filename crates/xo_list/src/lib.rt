@@ -18,8 +18,3 @@ pub use laws::{edits, more_room, one_array, one_field, one_reading, one_spelling
 pub use object::{Object, collect, read_elements, read_object};
 pub use skip::{Place, Skipped, skip_fields, skip_value};
 pub use span::Span;
-
-#[cfg(test)]
-mod place_tests;
-#[cfg(test)]
-mod tests;

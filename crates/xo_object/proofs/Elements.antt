@@ -1,23 +1,17 @@
 -- Lists of elements, one after another.
-use Rattle.std.proofs.Common.{◌≡◌, ℕ, zero, suc, ◌+◌, ◌<◌, ◌≤◌, List, [], ◌∷◌, ◌++◌, length, take, drop, get_or, refl, sym, ap, subst, ◌∙◌, arith, append_assoc, append-nil, true, Some}
+use Rattle.std.proofs.Common.{◌≡◌, ℕ, zero, suc, ◌+◌, ◌<◌, ◌≤◌, List, [], ◌∷◌, ◌++◌, length, take, drop, get_or, refl, sym, ap, subst, ◌∙◌, arith, append_assoc, append-nil}
 use Rattle.std.proofs.lemmas.List.{length-map, get_or_default, take-append-drop, drop_more, take_more, map-append, take_all}
 use Rattle.xo_fields.specs.declared.field.FieldId.{FieldId}
-use Rattle.xo_list.specs.declared.skip.Place.TheVariants.{Elements}
 use Rattle.xo_list.specs.declared.span.Span.{Span}
 use Rattle.xo_object.specs.declared.transaction.Parameter.{Parameter}
-use Rattle.xo_list.specs.Fault.{ends}
 use Rattle.xo_list.specs.Item.{Item}
 use Rattle.xo_list.specs.Laws.{OneReading}
 use Rattle.xo_object.specs.Names as names
 use Rattle.xo_list.specs.Span.{item_of, items_of}
 use Rattle.xo_object.specs.Transaction.{Each, IsElement, AreElements, ParameterIs, Differs, AllDiffer, AreParameters}
-use Rattle.xo_list.specs.Value.{IsValue, IsArray}
-use Rattle.xo_list.proofs.Parts.{asks_less}
-use Rattle.xo_object.proofs.Values.{one_list}
-
-pub one_elements : OneReading → (a b : List Item) (bytes : List ℕ) → IsArray a bytes → IsArray b bytes → a ≡ b
-one_elements one a b bytes h k =
-    (one 9 Elements a b bytes (ends []) (ends []) (asks_less (IsValue 9) true _ _ (λ last left e. (e, refl)) 0 a bytes h) (asks_less (IsValue 9) true _ _ (λ last left e. (e, refl)) 0 b bytes k)).0
+use Rattle.xo_list.specs.Value.{IsArray}
+use Rattle.xo_fields.proofs.Cases.{some_same}
+use Rattle.xo_list.proofs.OneList.{same_fields, same_elements}
 
 -- the elements, cut at one of them
 pub elements_cut : (bytes : List ℕ) (spans : List (FieldId × Span)) (i : ℕ) (s : FieldId × Span) → i < length spans → s ≡ get_or spans i s →
@@ -58,10 +52,10 @@ module _ {T : Type 0} (R : Item → T → Type 0) where
 
 module _ {T : Type 0} (one : OneReading) (f : FieldId) (Is : List Item → T → Type 0) (limit : ℕ) (bytes : List ℕ) (spans : List (FieldId × Span)) (array : IsArray (items_of bytes spans) bytes) where
   these : (ys : List T) → AreElements f Is limit bytes ys → Each (IsElement f Is) (items_of bytes spans) ys
-  these ys r = subst (λ xs. Each (IsElement f Is) xs ys) (one_elements one r.elements (items_of bytes spans) bytes r.array array) r.each
+  these ys r = subst (λ xs. Each (IsElement f Is) xs ys) (same_elements one r.elements (items_of bytes spans) bytes r.array array) r.each
 
   pub too_many : (ys : List T) → AreElements f Is limit bytes ys → limit < length spans → ⊥
-  too_many ys r many = omega (arith, r.few, ap length (one_elements one r.elements (items_of bytes spans) bytes r.array array), length-map spans (item_of bytes))
+  too_many ys r many = omega (arith, r.few, ap length (same_elements one r.elements (items_of bytes spans) bytes r.array array), length-map spans (item_of bytes))
 
   pub refused_at : (ys : List T) (i : ℕ) (s : FieldId × Span) → AreElements f Is limit bytes ys → i < length spans → s ≡ get_or spans i s → ((y : T) → IsElement f Is (item_of bytes s) y → ⊥) → ⊥
   refused_at ys i s r within e none =
@@ -72,20 +66,17 @@ module _ {T : Type 0} (one : OneReading) (f : FieldId) (Is : List Item → T →
   pub all_read : (ys : List T) → length spans ≤ limit → Each (IsElement f Is) (items_of bytes spans) ys → AreElements f Is limit bytes ys
   all_read ys few h = record { elements = items_of bytes spans; array = array; few = omega (arith, length-map spans (item_of bytes)); each = h }
 
-same_some : (v w : List ℕ) → Some v ≡ Some w → v ≡ w
-same_some v w e = cc
-
 parameter : List ℕ → List ℕ → Parameter
 parameter name value = record { name = name; value = value }
 
 one_parameter_of : (fields : List Item) (p q : Parameter) → ParameterIs fields p → ParameterIs fields q → p ≡ q
 unfolding parameter
 one_parameter_of fields p q h k =
-    ap (λ n. parameter n p.value) (same_some p.name q.name (sym h.name ∙ k.name)) ∙ ap (λ v. parameter q.name v) (sym h.value ∙ k.value)
+    ap (λ n. parameter n p.value) (some_same p.name q.name (sym h.name ∙ k.name)) ∙ ap (λ v. parameter q.name v) (sym h.value ∙ k.value)
 
 one_parameter : OneReading → (x : Item) (p q : Parameter) → IsElement names.hook_parameter ParameterIs x p → IsElement names.hook_parameter ParameterIs x q → p ≡ q
 one_parameter one x p q h k =
-    one_parameter_of k.fields p q (subst (λ fs. ParameterIs fs p) (one_list one h.fields k.fields x.value h.object k.object) h.is) k.is
+    one_parameter_of k.fields p q (subst (λ fs. ParameterIs fs p) (same_fields one h.fields k.fields x.value h.object k.object) h.is) k.is
 
 differ_at : (before a : List Parameter) (p : Parameter) (d : List Parameter) → AllDiffer before (a ++ p ∷ d) → Differs p.name (before ++ a)
 differ_at before [] p d h = subst (Differs p.name) (sym (append-nil before)) h.0

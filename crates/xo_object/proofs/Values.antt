@@ -9,33 +9,20 @@ use Rattle.xo_fields.specs.Amount.{IsAmount, AmountGives, IsValid, amount_bytes}
 use Rattle.xo_fields.specs.Field.{number}
 use Rattle.xo_fields.specs.Laws.{OneAmount}
 use Rattle.xo_fields.specs.Spelling.{Begins}
+use Rattle.xo_fields.proofs.Cases.{some_same, none_some}
 use Rattle.hk_base.specs.declared.ids.AccountId.{AccountId}
 use Rattle.std.specs.Option.{option_map}
 use Rattle.xo_object.specs.Transaction.{IsAmountOf, PaymentIs}
 use Rattle.std.proofs.lemmas.List.{take-append-drop}
 use Rattle.xo_fields.specs.Form.{form_at}
-use Rattle.xo_list.specs.declared.fault.ObjectFault.{ObjectFault}
 use Rattle.xo_object.specs.declared.reading.TransactionFault.{TransactionFault}
-use Rattle.xo_list.specs.declared.skip.Place.TheVariants.{Fields}
 use Rattle.xo_list.specs.Item.{Item, lookup, is_same}
-use Rattle.xo_list.specs.Fault.{ends, fails, IsFault}
-use Rattle.xo_list.specs.Laws.{OneReading}
 use Rattle.xo_list.specs.List.{ListFits}
-use Rattle.xo_list.specs.Value.{IsValue, IsObject, HasFields}
+use Rattle.xo_list.specs.Value.{IsValue, IsObject}
 use Rattle.xo_list.proofs.ListLemmas.{listed}
-use Rattle.xo_list.proofs.Parts.{asks_less}
 
 abbrev pub account_id : List ℕ → AccountId
 account_id bytes = record { 0 = bytes }
-
-none_some : (v : List ℕ) → None ≡ Some v → ⊥
-none_some v e = cc
-
-some_same : (form other : Form) → Some form ≡ Some other → form ≡ other
-some_same form other e = cc
-
-value_same : (v w : List ℕ) → Some v ≡ Some w → v ≡ w
-value_same v w e = cc
 
 kind_same : (f g : FieldId) → is_same f g ≡ true → f.kind ≡ g.kind
 kind_same f g e = grind (arith, nat_tests)
@@ -48,22 +35,11 @@ value_fits last (x ∷ xs) f form v (g, h) k e = ways (is_same x.field f) refl e
     ways true s found later =
         let kinds : x.field.kind ≡ f.kind = kind_same x.field f s in
         let forms : g.form ≡ form = some_same g.form form (sym g.known ∙ ap form_at kinds ∙ k) in
-        subst (IsValue 10 form) (value_same x.value v found) (subst (λ o. IsValue 10 o x.value) forms g.value)
+        subst (IsValue 10 form) (some_same x.value v found) (subst (λ o. IsValue 10 o x.value) forms g.value)
     ways false s found later = later found
 
 pub lookup_fits : (bytes : List ℕ) (fields : List Item) (f : FieldId) (form : Form) (v : List ℕ) → IsObject fields bytes → form_at f.kind ≡ Some form → lookup f fields ≡ Some v → IsValue 10 form v
 lookup_fits bytes fields f form v h k e = value_fits 0 fields f form v (listed (IsValue 10) false 0 fields bytes h).0 k e
-
--- an object's bytes have no fault
-pub object_or_fault : OneReading → (bytes : List ℕ) (fault : ObjectFault) → IsFault bytes fault → HasFields bytes → ⊥
-object_or_fault one bytes fault (b, k) (a, h) =
-    let same : (a ≡ b) × (ends [] ≡ fails fault) = one 10 Fields a b bytes (ends []) (fails fault) (asks_less (IsValue 10) false _ _ (λ last left e. (e, refl)) 0 a bytes h) k in
-    let e : ends [] ≡ fails fault = same.1 in cc
-
--- an object has one list
-pub one_list : OneReading → (a b : List Item) (bytes : List ℕ) → IsObject a bytes → IsObject b bytes → a ≡ b
-one_list one a b bytes h k =
-    (one 10 Fields a b bytes (ends []) (ends []) (asks_less (IsValue 10) false _ _ (λ last left e. (e, refl)) 0 a bytes h) (asks_less (IsValue 10) false _ _ (λ last left e. (e, refl)) 0 b bytes k)).0
 
 -- the amount that bytes are
 pub amount_of : OneAmount → (value : List ℕ) (a : Amount) (size : ℕ) → IsAmount value → AmountGives value (amounts.Amount a size) → IsValid a × (value ≡ amount_bytes a)
@@ -81,9 +57,9 @@ given_amount found value a e h = subst (λ o. IsAmountOf o (Some a)) (sym e) h
 -- what a field says is one account, and one amount
 pub same_account : (a b : Option AccountId) (found : Option (List ℕ)) → found ≡ option_map (λ (x : AccountId). x.0) a → found ≡ option_map (λ (x : AccountId). x.0) b → a ≡ b
 same_account None None found h k = refl
-same_account None (Some y) found h k = absurd (none_some y.0 (sym h ∙ k))
-same_account (Some x) None found h k = absurd (none_some x.0 (sym k ∙ h))
-same_account (Some x) (Some y) found h k = ap (λ bytes. Some (account_id bytes)) (value_same x.0 y.0 (sym h ∙ k))
+same_account None (Some y) found h k = none_some y.0 (sym h ∙ k)
+same_account (Some x) None found h k = none_some x.0 (sym k ∙ h)
+same_account (Some x) (Some y) found h k = ap (λ bytes. Some (account_id bytes)) (some_same x.0 y.0 (sym h ∙ k))
 
 pub same_amount : OneAmount → (found : Option (List ℕ)) (a b : Option Amount) → IsAmountOf found a → IsAmountOf found b → a ≡ b
 same_amount one None None None h k = refl
@@ -95,7 +71,7 @@ same_amount one (Some v) (Some a) (Some b) h k =
     let same : (a ≡ b) × ([] ≡ []) = one a b [] [] h.0 k.0 (append-nil (amount_bytes a) ∙ sym h.1 ∙ k.1 ∙ sym (append-nil (amount_bytes b))) in ap Some same.0
 
 pub number_same : (found : Option ℕ) (m n : ℕ) → found ≡ Some m → found ≡ Some n → m ≡ n
-number_same found m n h k = let e : Some m ≡ Some n = sym h ∙ k in cc
+number_same found m n h k = some_same m n (sym h ∙ k)
 
 pub paid_same : (kind other : ℕ) (a b : Option AccountId) (x y : Option Amount) → kind ≡ other → a ≡ b → x ≡ y → PaymentIs other b y → PaymentIs kind a x
 paid_same kind other a b x y k e f h =

@@ -18,6 +18,3 @@ pub use xo_list::{
     one_array, one_field, one_reading, one_spelling, read_elements, read_object, skip_elements,
     skip_fields, skip_value,
 };
-
-#[cfg(test)]
-mod tests;

@@ -1,15 +1,9 @@
-use Rattle.std.proofs.Common.{◌≡◌, ℕ, length, refl, IsTrue, nat_eq, arith}
-use Rattle.std.proofs.lemmas.Bool.Decides.{nat_tests}
+use Rattle.std.proofs.Common.{length, refl}
 use Rattle.xo_list.specs.Value.{HasFields}
-use Rattle.xo_edit.proofs.Reading.{never_true}
+use Rattle.xo_fields.proofs.Cases.{same_size, size_same}
+use Rattle.xo_list.proofs.OneList.{never_true}
 use Rattle.xo_edit.proofs.Splices.{one_whole, whole_one, absent_one, has_fields}
 use Rattle.xo_edit.proofs.edit.is_field.Goals as goal
-
-same_size : (m n : ℕ) → IsTrue (nat_eq m n) → m ≡ n
-same_size m n t = grind (arith, nat_tests)
-
-size_same : (m n : ℕ) → m ≡ n → IsTrue (nat_eq m n)
-size_same m n e = grind (arith, nat_tests)
 
 pub returns-then-not-validate : goal.returns-then-not-validate
 returns-then-not-validate c = record { field = (λ t. absurd (never_true t), λ is. c.if-not-validate.ensures.object.1 (has_fields c.args.bytes.now c.args.field is)) }

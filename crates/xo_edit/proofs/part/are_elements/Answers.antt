@@ -1,5 +1,5 @@
 use Rattle.std.proofs.Common.{refl}
-use Rattle.xo_edit.proofs.Reading.{elements_or_fault, elements_whole, never_true}
+use Rattle.xo_list.proofs.OneList.{elements_or_fault, elements_whole, never_true}
 use Rattle.xo_edit.proofs.part.are_elements.Goals as goal
 
 pub returns-in-Err : goal.returns-in-Err

@@ -1,5 +1,5 @@
 use Rattle.std.proofs.Common.{refl}
-use Rattle.xo_list.proofs.Building.{never_true, elements_whole, elements_or_fault}
+use Rattle.xo_list.proofs.OneList.{never_true, elements_whole, elements_or_fault}
 use Rattle.xo_list.proofs.builder.are_elements.Goals as goal
 
 pub returns-in-Err : goal.returns-in-Err

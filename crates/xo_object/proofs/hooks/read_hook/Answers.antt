@@ -1,9 +1,9 @@
 use Rattle.std.proofs.Common.{subst}
 use Rattle.xo_list.specs.Span.{items}
 use Rattle.xo_object.specs.Transaction.{HookIs}
-use Rattle.xo_object.proofs.Values.{one_list}
+use Rattle.xo_list.proofs.OneList.{same_fields}
 use Rattle.xo_object.proofs.hooks.read_hook.Goals as goal
 
 pub returns-clause-malformed : goal.returns-clause-malformed
 returns-clause-malformed c e own r =
-    c.hook_of.ensures.malformed e own (subst (λ fields. HookIs fields own) (one_list c.one_reading.ensures.law r.fields (items c.in_ok-object.object) c.args.bytes.now r.object c.in_ok-object.ensures.ok) r.is)
+    c.hook_of.ensures.malformed e own (subst (λ fields. HookIs fields own) (same_fields c.one_reading.ensures.law r.fields (items c.in_ok-object.object) c.args.bytes.now r.object c.in_ok-object.ensures.ok) r.is)

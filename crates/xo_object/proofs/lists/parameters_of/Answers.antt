@@ -2,7 +2,7 @@ use Rattle.std.proofs.Common.{subst, [], sym, refl}
 use Rattle.xo_object.specs.Names.{hook_parameter}
 use Rattle.xo_object.specs.Transaction.{ParameterIs, AllDiffer, Differs}
 use Rattle.xo_object.proofs.Elements.{too_many, more_read, refused_there, twice_there, whole_read, differ_push}
-use Rattle.xo_list.proofs.Building.{never_true}
+use Rattle.xo_list.proofs.OneList.{never_true}
 use Rattle.xo_object.proofs.lists.parameters_of.Goals as goal
 
 pub returns-then-elements-gt-MOST-clause-malformed : goal.returns-then-elements-gt-MOST-clause-malformed

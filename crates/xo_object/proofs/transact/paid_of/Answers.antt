@@ -1,5 +1,5 @@
 use Rattle.std.proofs.Common.{refl}
-use Rattle.xo_list.proofs.Building.{never_true}
+use Rattle.xo_list.proofs.OneList.{never_true}
 use Rattle.xo_object.proofs.Values.{same_account, same_amount, paid_same}
 use Rattle.xo_object.proofs.transact.paid_of.Goals as goal
 

@@ -1,18 +1,21 @@
 -- Lists of fields, cut at a field's number.
-use Rattle.std.proofs.Common.{◌≡◌, ℕ, ◌<◌, ◌≤◌, true, false, List, [], ◌∷◌, ◌++◌, refl, sym, ap, ◌∙◌, arith, append_assoc, Some, None, if◌then◌else◌, nat_lt}
+use Rattle.std.proofs.Common.{◌≡◌, ℕ, ◌<◌, ◌≤◌, true, false, List, [], ◌∷◌, ◌++◌, refl, ap, ◌∙◌, arith, Some, None, if◌then◌else◌, nat_lt}
 use Rattle.std.proofs.lemmas.Bool.Decides.{nat_tests}
 use Rattle.xo_fields.specs.declared.field.FieldId.{FieldId}
 use Rattle.xo_fields.specs.Field.{number}
-use Rattle.xo_fields.specs.Form.{form_at}
-use Rattle.xo_fields.specs.Header.{header}
-use Rattle.xo_list.specs.Item.{Item, body_of, spell, is_same, lookup, without, with_item}
+use Rattle.xo_list.specs.Item.{Item, is_same, lookup, without, with_item}
 use Rattle.xo_list.specs.Located.{AllBelow, AllAbove}
 
-pub spell-append : (a b : List Item) → spell (a ++ b) ≡ spell a ++ spell b
-spell-append [] b = refl
-spell-append (x ∷ xs) b =
-    ap (λ t. header x.field ++ (body_of (form_at x.field.kind) x.value ++ t)) (spell-append xs b)
-    ∙ ap (λ t. header x.field ++ t) (sym (append_assoc (body_of (form_at x.field.kind) x.value) (spell xs) (spell b))) ∙ sym (append_assoc (header x.field) (body_of (form_at x.field.kind) x.value ++ spell xs) (spell b))
+pub same_field : (f g : FieldId) → f.code < 256 → g.code < 256 → number f ≡ number g → f ≡ g
+same_field f g fc gc e =
+    let kinds : f.kind ≡ g.kind = omega arith in let codes : f.code ≡ g.code = omega arith in ap (λ k. made k f.code) kinds ∙ ap (λ n. made g.kind n) codes
+  where
+    made : ℕ → ℕ → FieldId
+    made k n = record { kind = k; code = n }
+
+pub AllBelow-append : (n : ℕ) (a b : List Item) → AllBelow n a → AllBelow n b → AllBelow n (a ++ b)
+AllBelow-append n [] b h k = k
+AllBelow-append n (x ∷ xs) b h k = (h.0, AllBelow-append n xs b h.1 k)
 
 differs_below : (f g : FieldId) → number f < number g → is_same f g ≡ false
 differs_below f g h = grind (arith, nat_tests)
@@ -20,15 +23,15 @@ differs_below f g h = grind (arith, nat_tests)
 differs_above : (f g : FieldId) → number g < number f → is_same f g ≡ false
 differs_above f g h = grind (arith, nat_tests)
 
-same_itself : (f : FieldId) → is_same f f ≡ true
+pub same_itself : (f : FieldId) → is_same f f ≡ true
 same_itself f = grind (arith, nat_tests)
 
 -- the value of a field
-lookup_below : (f : FieldId) (a b : List Item) → AllBelow (number f) a → lookup f (a ++ b) ≡ lookup f b
+pub lookup_below : (f : FieldId) (a b : List Item) → AllBelow (number f) a → lookup f (a ++ b) ≡ lookup f b
 lookup_below f [] b h = refl
 lookup_below f (x ∷ xs) b h = ap (λ same. if same then Some x.value else lookup f (xs ++ b)) (differs_below x.field f h.0) ∙ lookup_below f xs b h.1
 
-lookup_above : (f : FieldId) (b : List Item) → AllAbove (number f) b → lookup f b ≡ None
+pub lookup_above : (f : FieldId) (b : List Item) → AllAbove (number f) b → lookup f b ≡ None
 lookup_above f [] h = refl
 lookup_above f (x ∷ xs) h = ap (λ same. if same then Some x.value else lookup f xs) (differs_above x.field f h.0) ∙ lookup_above f xs h.1
 
