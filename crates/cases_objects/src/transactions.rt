@@ -77,11 +77,12 @@ fn item_told(alloc: Global, item: &HookItem) -> Result<String, NoMemory> {
         HookItem::DeleteNamespace(_) => String::from_str(alloc, "DeleteNamespace"),
         HookItem::Delete => String::from_str(alloc, "Delete"),
         HookItem::Create {
+            version,
             parameters,
             grants,
             replace,
             ..
-        } => format!(in alloc; "Create {} {} {replace}", parameters.len(), grants.len()),
+        } => format!(in alloc; "Create {version} {} {} {replace}", parameters.len(), grants.len()),
         HookItem::Install {
             parameters,
             grants,

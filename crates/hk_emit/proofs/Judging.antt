@@ -1,28 +1,28 @@
 -- How a blob is judged, and the function that finds what is accepted.
-use Rattle.std.proofs.Common.{◌≡◌, ◌≢◌, ℕ, ◌<◌, ◌≤◌, Bool, true, false, List, length, refl, sym, ap, subst, ◌∙◌, arith, Option, Some, None, Ok, Err, IfErr, nat_lt, ok_or, if◌then◌else◌}
+use Rattle.std.proofs.Common.{◌≡◌, ℕ, ◌<◌, ◌≤◌, true, false, List, length, refl, sym, ap, subst, ◌∙◌, arith, Option, Some, None, Ok, Err, IfErr, nat_lt, ok_or, if◌then◌else◌}
 use Rattle.std.specs.Option.{option_and_then}
 use Rattle.std.specs.Result.{result_ok}
 use Rattle.std.proofs.lemmas.Bool.Decides.{nat_tests}
 use Rattle.hk_base.specs.declared.ids.Hash256.{Hash256}
 use Rattle.xo_fields.proofs.Cases.{either, none_some}
+use Rattle.xo_fields.specs.Laws.{OneHeader}
 use Rattle.xo_list.specs.Item.{Item}
 use Rattle.xo_list.specs.Value.{IsObject, HasFields}
 use Rattle.xo_object.specs.declared.transaction.Transaction.{Transaction}
-use Rattle.xo_object.specs.Names.{transaction_type}
-use Rattle.xo_object.specs.Transaction.{IsTransaction, number16}
-use Rattle.xo_object.proofs.Values.{number_same}
+use Rattle.xo_object.specs.Transaction.{IsTransaction}
 use Rattle.hk_reading.specs.Parsing.{fields_of}
 use Rattle.hk_reading.specs.Readings.{longest}
+use Rattle.hk_reading.specs.Transactions.{transaction_of}
 use Rattle.hk_reading.proofs.FieldsFound.{fields_found}
+use Rattle.hk_reading.proofs.TransactionsFound.{transaction_found}
 use Rattle.hk_emit.specs.declared.context.EmitContext.{EmitContext}
 use Rattle.hk_emit.specs.declared.emission.Emission.{Emission}
 use Rattle.hk_emit.specs.declared.fault.EmitFault.{EmitFault}
 use Rattle.hk_emit.specs.declared.fault.EmitFault.TheVariants as faults
-use Rattle.hk_emit.specs.Accept.{OrFault, ◌>>=◌, ◌>>◌, refuse, has_number, nonce_of, emission_of, judged, IsReadAs, JudgesFields, IsLater, IsJudged, Judges}
+use Rattle.hk_emit.specs.Accept.{OrFault, ◌>>=◌, ◌>>◌, refuse, has_number, nonce_of, emission_of, judged, IsReadAs, JudgesFields, IsLater, Judges}
 use Rattle.hk_emit.specs.Accepted.{accepted, accepted_fields, Accepts, IsEmission, AcceptedReads}
-use Rattle.hk_emit.specs.Emitted.{emitted_of}
-use Rattle.hk_emit.proofs.EmittedFound.{IsEmitted, emitted_found}
-use Rattle.hk_emit.proofs.Taking.{Taken, Made, made, emission_with}
+use Rattle.hk_emit.proofs.Saying.{SaysOf, nonce_says}
+use Rattle.hk_emit.proofs.Taking.{Made, made, emission_with}
 
 module _ (context : EmitContext) (nonces : List Hash256) (fields : List Item) where
   -- what is asked once a nonce is found
@@ -70,7 +70,7 @@ module _ (blob : List ℕ) (context : EmitContext) (nonces : List Hash256) where
   unfolding accepted
   accepted_short short = ap (λ b. if b then None else option_and_then (accepted_fields blob context nonces) (fields_of blob)) (let no_more : nat_lt longest (length blob) ≡ false = grind (arith, nat_tests) in no_more)
 
-  accepted_at : (fields : List Item) → length blob ≤ longest → IsObject fields blob → accepted blob context nonces ≡ result_ok (judged context nonces fields (emitted_of fields blob))
+  accepted_at : (fields : List Item) → length blob ≤ longest → IsObject fields blob → accepted blob context nonces ≡ result_ok (judged context nonces fields (transaction_of true fields blob))
   accepted_at fields short object = accepted_short short ∙ ap (option_and_then (accepted_fields blob context nonces)) ((fields_found blob).complete fields object)
 
   no_fields : (HasFields blob → ⊥) → (found : Option (List Item)) → fields_of blob ≡ found → found ≡ None
@@ -89,27 +89,24 @@ module _ (blob : List ℕ) (context : EmitContext) (nonces : List Hash256) where
 
   module _ (fields : List Item) (short : length blob ≤ longest) (object : IsObject fields blob) where
     refused_any : (fault : EmitFault) → ((o : Option Transaction) → judged context nonces fields o ≡ Err fault) → accepted blob context nonces ≡ None
-    refused_any fault all = accepted_at fields short object ∙ ap result_ok (all (emitted_of fields blob))
+    refused_any fault all = accepted_at fields short object ∙ ap result_ok (all (transaction_of true fields blob))
 
-    -- a transaction of a type other than 22 is the one that is found
-    same_kind : (t u : Transaction) → IsTransaction fields blob true t → IsEmitted fields blob u → t.kind ≢ 22
-    same_kind t u is other e = other.1 (number_same (number16 transaction_type fields) u.kind t.kind other.0.common.kind_is is.common.kind_is ∙ e)
-
-    none_made : (fault : EmitFault) (o : Option Transaction) → IsReadAs fields blob o → judged context nonces fields o ≡ Err fault → (e : Emission) → judged context nonces fields (emitted_of fields blob) ≡ Ok e → ⊥
-    none_made fault None read h e k = let m : Made context nonces fields (emitted_of fields blob) e = made context nonces fields (emitted_of fields blob) e k in read m.t ((emitted_found fields blob).sound m.t m.read).0
+    -- another transaction can't be the one that is found
+    none_made : (fault : EmitFault) (o : Option Transaction) → IsReadAs fields blob o → judged context nonces fields o ≡ Err fault → (e : Emission) → judged context nonces fields (transaction_of true fields blob) ≡ Ok e → ⊥
+    none_made fault None read h e k =
+        let m : Made context nonces fields (transaction_of true fields blob) e = made context nonces fields (transaction_of true fields blob) e k in read m.t ((transaction_found true fields blob).sound m.t m.read)
     none_made fault (Some t) read h e k =
-        let m : Made context nonces fields (emitted_of fields blob) e = made context nonces fields (emitted_of fields blob) e k in
-        let found : emitted_of fields blob ≡ Some t = (emitted_found fields blob).complete t (read, same_kind t m.t read ((emitted_found fields blob).sound m.t m.read)) in
+        let found : transaction_of true fields blob ≡ Some t = (transaction_found true fields blob).complete t read in
         ok_refused (judged context nonces fields (Some t)) fault e h (ap (judged context nonces fields) (sym found) ∙ k)
 
     refused_read : (fault : EmitFault) (o : Option Transaction) → IsReadAs fields blob o → judged context nonces fields o ≡ Err fault → accepted blob context nonces ≡ None
-    refused_read fault o read h = accepted_at fields short object ∙ none_ok (judged context nonces fields (emitted_of fields blob)) (none_made fault o read h)
+    refused_read fault o read h = accepted_at fields short object ∙ none_ok (judged context nonces fields (transaction_of true fields blob)) (none_made fault o read h)
 
     taken_read : (e : Emission) (o : Option Transaction) → IsReadAs fields blob o → judged context nonces fields o ≡ Ok e → accepted blob context nonces ≡ Some e
     taken_read e o read h =
         let m : Made context nonces fields o e = made context nonces fields o e h in
         let is : IsTransaction fields blob true m.t = subst (IsReadAs fields blob) m.read read in
-        let found : emitted_of fields blob ≡ Some m.t = (emitted_found fields blob).complete m.t (is, m.taken.other) in
+        let found : transaction_of true fields blob ≡ Some m.t = (transaction_found true fields blob).complete m.t is in
         accepted_at fields short object ∙ ap (λ p. result_ok (judged context nonces fields p)) (found ∙ sym m.read) ∙ ap result_ok h
 
   pub accepts : (answer : OrFault Emission) → Judges blob context nonces answer → Accepts blob context nonces answer
@@ -125,15 +122,16 @@ module _ (blob : List ℕ) (context : EmitContext) (nonces : List Hash256) where
   ok_again (Ok f) e h = let same : f ≡ e = cc in ap (λ x. Ok x) same
   ok_again (Err fault) e h = absurd (cc)
 
-  made_reads : (fields : List Item) (e : Emission) → length blob ≤ longest → IsObject fields blob → Made context nonces fields (emitted_of fields blob) e → IsEmission blob context nonces e
-  made_reads fields e short object m =
-      let is : IsEmitted fields blob m.t = (emitted_found fields blob).sound m.t m.read in
+  made_reads : OneHeader → (fields : List Item) (e : Emission) → length blob ≤ longest → IsObject fields blob → Made context nonces fields (transaction_of true fields blob) e → IsEmission blob context nonces e
+  made_reads one fields e short object m =
+      let is : IsTransaction fields blob true m.t = (transaction_found true fields blob).sound m.t m.read in
+      let says : SaysOf context m.t.generation m.t.burden = nonce_says one context nonces fields m.nonce m.t.sequence m.t.generation m.t.burden m.drawn is.emission in
       let whole : IsEmission blob context nonces (emission_with context m.nonce m.t m.taken.first m.taken.last) =
       record {
         short = short;
         fields = fields;
         object = object;
-        is = is.0;
+        is = is;
         other = m.taken.other;
         own = m.taken.own;
         nonce = m.drawn;
@@ -142,15 +140,17 @@ module _ (blob : List ℕ) (context : EmitContext) (nonces : List Hash256) where
         later = m.taken.later;
         order = m.taken.order;
         window = m.taken.window;
-        generation = m.taken.generation;
+        few = m.taken.generation;
+        generation = says.0;
+        burden = says.1;
       } in subst (IsEmission blob context nonces) m.taken.same whole
 
-  found_reads : (e : Emission) → length blob ≤ longest → (found : Option (List Item)) → fields_of blob ≡ found → option_and_then (accepted_fields blob context nonces) found ≡ Some e → IsEmission blob context nonces e
-  found_reads e short None f h = none_some e h
-  found_reads e short (Some fields) f h =
-      made_reads fields e short ((fields_found blob).sound fields f) (made context nonces fields (emitted_of fields blob) e (ok_again (judged context nonces fields (emitted_of fields blob)) e h))
+  found_reads : OneHeader → (e : Emission) → length blob ≤ longest → (found : Option (List Item)) → fields_of blob ≡ found → option_and_then (accepted_fields blob context nonces) found ≡ Some e → IsEmission blob context nonces e
+  found_reads one e short None f h = none_some e h
+  found_reads one e short (Some fields) f h =
+      made_reads one fields e short ((fields_found blob).sound fields f) (made context nonces fields (transaction_of true fields blob) e (ok_again (judged context nonces fields (transaction_of true fields blob)) e h))
 
-pub accepted_emission : AcceptedReads
-accepted_emission blob context nonces e h =
+pub accepted_emission : OneHeader → AcceptedReads
+accepted_emission one blob context nonces e h =
     either (nat_lt longest (length blob)) (λ long. none_some e (sym (accepted_long blob context nonces (grind (arith, nat_tests, long))) ∙ h))
-    (λ fits. let short : length blob ≤ longest = grind (arith, nat_tests, fits) in found_reads blob context nonces e short (fields_of blob) refl (sym (accepted_short blob context nonces short) ∙ h))
+    (λ fits. let short : length blob ≤ longest = grind (arith, nat_tests, fits) in found_reads blob context nonces one e short (fields_of blob) refl (sym (accepted_short blob context nonces short) ∙ h))

@@ -1,4 +1,4 @@
-pub mod EmittedFound
 pub mod Taking
+pub mod Saying
 pub mod Judging
 pub mod Joining

@@ -1,7 +1,6 @@
 -- Which blobs are emissions, and why others are not (this project's own, after the Hooks documentation, "Emitted Transactions").
 use Rattle.std.specs.Prelude.{◌≡◌, ℕ, ◌+◌, ◌<◌, ◌≤◌, ◌⊎◌, ◌==◌, ◌&&◌, not, nat_lt, nat_le, bytes_eq, Bool, true, false, List, [], ◌∷◌, length, replicate, find, Option, Some, None, is_some, ok_or, Result, Ok, Err, if◌then◌else◌}
 use Rattle.std.specs.Option.{option_map_or}
-use Rattle.std.specs.Result.{result_ok}
 use Rattle.hk_base.specs.declared.ids.AccountId.{AccountId}
 use Rattle.hk_base.specs.declared.ids.Hash256.{Hash256}
 use Rattle.xo_fields.specs.declared.field.FieldId.{FieldId}

@@ -1,5 +1,4 @@
 pub mod Numbers
 pub mod Details
 pub mod Accept
-pub mod Emitted
 pub mod Accepted

@@ -2,6 +2,8 @@ pub mod Finding
 pub mod Fronts
 pub mod AmountsFound
 pub mod FieldsFound
-pub mod ParametersFound
+pub mod ListsFound
+pub mod HookItemsFound
+pub mod DetailsFound
 pub mod TransactionsFound
 pub mod OneReading

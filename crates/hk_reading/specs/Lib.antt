@@ -1,6 +1,9 @@
 pub mod Readings
 pub mod Amounts
 pub mod Parsing
+pub mod Lists
+pub mod HookItems
+pub mod Details
 pub mod Transactions
 pub mod Reading
 pub mod Laws

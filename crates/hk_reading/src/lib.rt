@@ -4,5 +4,5 @@
 mod laws;
 mod reading;
 
-pub use laws::reads_one_way;
+pub use laws::{reads_one_way, transactions_found};
 pub use reading::{Reading, read};

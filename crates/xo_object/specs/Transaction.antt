@@ -172,12 +172,14 @@ pub record TermsAre (fields : List Item) (t : Terms) : Type 0 where
 
 pub record IsCreate (fields : List Item) (h : HookItem) : Type 0 where
   pub code : List ℕ
+  pub version : ℕ
   pub terms : Terms
   pub coded : lookup names.create_code fields ≡ Some code
-  pub version : number16 names.hook_api_version fields ≡ Some 0
+  pub said_version : number16 names.hook_api_version fields ≡ Some version
+  pub known : version ≤ 1
   pub said : TermsAre fields terms
   pub others : IsTrue (only (names.flags ∷ names.hook_on ∷ names.hook_namespace ∷ names.hook_api_version ∷ names.create_code ∷ names.hook_parameters ∷ names.hook_grants ∷ []) fields)
-  pub is : h ≡ Create code 0 terms.on terms.namespace terms.parameters terms.grants terms.replace
+  pub is : h ≡ Create code version terms.on terms.namespace terms.parameters terms.grants terms.replace
 
 pub record IsInstall (fields : List Item) (h : HookItem) : Type 0 where
   pub hash : Hash256

@@ -26,6 +26,9 @@ use xo_list::{Object, Span, one_reading};
 /// The most items of a transaction.
 const MOST: usize = 10;
 
+/// The last version of hooks.
+const LAST_VERSION: u16 = 1;
+
 /// The items of an array's bytes.
 pub fn read_hooks(alloc: Global, bytes: &[u8]) -> Result<Items<HookItem>, TransactionFault>
     ensures ok { IfOk result (λ hooks. AreHooks bytes.now hooks) }
@@ -219,18 +222,17 @@ fn create_of(alloc: Global, object: &Object, code: &[u8]) -> Result<HookItem, Tr
     ) {
         return Err(TransactionFault::Malformed);
     }
-    match number16_at(object, HOOK_API_VERSION) {
+    let version = match number16_at(object, HOOK_API_VERSION) {
         None => return Err(TransactionFault::Malformed),
-        Some(version) => {
-            if version != 0 {
-                return Err(TransactionFault::Malformed);
-            }
-        }
+        Some(version) => version,
+    };
+    if version > LAST_VERSION {
+        return Err(TransactionFault::Malformed);
     }
     let code = copied(alloc, code)?;
     match terms_of(alloc, object) {
         Err(fault) => Err(fault),
-        Ok(terms) => Ok(terms.create(code, 0)),
+        Ok(terms) => Ok(terms.create(code, version)),
     }
 }
 

@@ -1,6 +1,5 @@
-use Rattle.std.proofs.Common.{◌≡◌, false, Some, None, Err, sym, ap, ◌∙◌, refl}
+use Rattle.std.proofs.Common.{Some, None, Err, sym, ap, ◌∙◌}
 use Rattle.xo_list.specs.Span.{items}
-use Rattle.hk_emit.specs.Accept.{has_number, nonce_of}
 use Rattle.hk_emit.proofs.Judging.{by_number, by_details, by_reading, later_judged}
 use Rattle.hk_emit.proofs.accept.emission_in.Goals as goal
 
