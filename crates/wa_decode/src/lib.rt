@@ -15,6 +15,3 @@ mod vectors;
 pub use decoding::{decode, module_reads, number_lengths, one_module};
 pub use extensions::has_extensions;
 pub use fault::DecodeFault;
-
-#[cfg(test)]
-mod tests;
