@@ -10,8 +10,6 @@ mod operands;
 mod plain;
 mod region;
 mod scope;
-#[cfg(test)]
-mod tests;
 mod validation;
 
 pub use depth::{Depth, Typed};
