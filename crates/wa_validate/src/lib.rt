@@ -5,6 +5,7 @@ mod accesses;
 mod body;
 mod depth;
 mod labels;
+mod laws;
 mod open_regions;
 mod operands;
 mod plain;
@@ -15,4 +16,5 @@ mod tests;
 mod validation;
 
 pub use depth::{Depth, Typed};
+pub use laws::typing_decided;
 pub use validation::{TypeFault, validate};
