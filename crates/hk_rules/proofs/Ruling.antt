@@ -46,8 +46,8 @@ found_below (suc n) test i less here =
     elim (leb_tells (i + 1) n) [
       | inl earlier ↦ let within = earlier.1 in or_back (test n) (any_below n test) (found_below n test i (omega (arith, within)) here)
       | inr last ↦ let past = last.1 in
-        let same : i ≡ n = omega (arith, less, past) in
-        or_front (test n) (any_below n test) (subst (λ k. test k ≡ true) same here)
+          let same : i ≡ n = omega (arith, less, past) in
+          or_front (test n) (any_below n test) (subst (λ k. test k ≡ true) same here)
     ]
 
 none_below : (n : ℕ) (test : ℕ → Bool) → ((i : ℕ) → test i ≡ false) → any_below n test ≡ false
@@ -175,13 +175,59 @@ all_forth size (rule ∷ rules) kept =
 -- each rule's breaks are below the module's size
 seen : (m : Module) → AllWitnessed (size_of m) (hook_rules m)
 seen m = (
-  items (size_of m) _ m.types (omega arith), (items (size_of m) _ m.globals (omega arith), (items (size_of m) _ m.codes (omega arith),
-  (instructions (size_of m) _ m.codes (omega arith) (omega arith), (items (size_of m) _ m.imports (omega arith), (items (size_of m) _ m.types (omega arith),
-  (items (size_of m) _ m.functions (omega arith), (whole (size_of m) _ (omega arith), (whole (size_of m) _ (omega arith),
-  (items (size_of m) _ m.globals (omega arith), (whole (size_of m) _ (omega arith), (whole (size_of m) _ (omega arith), (whole (size_of m) _ (omega arith),
-  (items (size_of m) _ m.segments (omega arith), (items (size_of m) _ m.codes (omega arith), (instructions (size_of m) _ m.codes (omega arith) (omega arith),
-  (instructions (size_of m) _ m.codes (omega arith) (omega arith), (instructions (size_of m) _ m.codes (omega arith) (omega arith),
-  (instructions (size_of m) _ m.codes (omega arith) (omega arith), (instructions (size_of m) _ m.codes (omega arith) (omega arith), tt))))))))))))))))))),
+  items (size_of m) _ m.types (omega arith),
+  (
+    items (size_of m) _ m.globals (omega arith),
+    (
+      items (size_of m) _ m.codes (omega arith),
+      (
+        instructions (size_of m) _ m.codes (omega arith) (omega arith),
+        (
+          items (size_of m) _ m.imports (omega arith),
+          (
+            items (size_of m) _ m.types (omega arith),
+            (
+              items (size_of m) _ m.functions (omega arith),
+              (
+                whole (size_of m) _ (omega arith),
+                (
+                  whole (size_of m) _ (omega arith),
+                  (
+                    items (size_of m) _ m.globals (omega arith),
+                    (
+                      whole (size_of m) _ (omega arith),
+                      (
+                        whole (size_of m) _ (omega arith),
+                        (
+                          whole (size_of m) _ (omega arith),
+                          (
+                            items (size_of m) _ m.segments (omega arith),
+                            (
+                              items (size_of m) _ m.codes (omega arith),
+                              (
+                                instructions (size_of m) _ m.codes (omega arith) (omega arith),
+                                (
+                                  instructions (size_of m) _ m.codes (omega arith) (omega arith),
+                                  (
+                                    instructions (size_of m) _ m.codes (omega arith) (omega arith),
+                                    (instructions (size_of m) _ m.codes (omega arith) (omega arith), (instructions (size_of m) _ m.codes (omega arith) (omega arith), tt)),
+                                  ),
+                                ),
+                              ),
+                            ),
+                          ),
+                        ),
+                      ),
+                    ),
+                  ),
+                ),
+              ),
+            ),
+          ),
+        ),
+      ),
+    ),
+  ),
 )
 
 -- ---- the first rule that is broken

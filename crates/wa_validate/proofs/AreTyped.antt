@@ -41,8 +41,8 @@ all_below m (suc count) function h less =
     elim (leb_tells (function + 1) count) [
       | inl earlier ↦ let within = earlier.1 in all_below m count function (and_parts (typed_below m count) (is_typed_at m count) h).0 (omega (arith, within))
       | inr last ↦ let past = last.1 in
-        let same : count ≡ function = omega (arith, less, past) in
-        subst (λ n. is_typed_at m n ≡ true) same (and_parts (typed_below m count) (is_typed_at m count) h).1
+          let same : count ≡ function = omega (arith, less, past) in
+          subst (λ n. is_typed_at m n ≡ true) same (and_parts (typed_below m count) (is_typed_at m count) h).1
     ]
 
 count_below : (m : Module) (count : ℕ) → ((function : ℕ) → IsTypedAt m function) → typed_below m count ≡ true
