@@ -24,6 +24,12 @@ use Rattle.wa_validate.specs.Needs.{IsBodyCode}
 use Rattle.wa_validate.specs.Untyped.{HasDepths}
 use Rattle.wa_validate.specs.declared.depth.Depth.{Depth}
 use Rattle.hk_bound.proofs.Refusing.{all_bodies}
+use Rattle.hk_bound.proofs.Ruled.{ruled_imports}
+use Rattle.hk_bound.specs.Laws.{Typables}
+
+-- what typing needs of a decoded module that meets the rules
+pub typables : Typables
+typables m sound ruled = record { imports = ruled_imports m ruled; bodies = all_bodies m.codes sound.codes; few = omega (arith, sound.functions, sound.paired) }
 
 -- each run of locals counts once for each
 locals_counted : (runs : List (ℕ × ValueType)) → length (expanded runs) ≡ sum_by (λ run. run.0) runs

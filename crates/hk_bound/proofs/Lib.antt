@@ -1,3 +1,4 @@
+pub mod Acceptance
 pub mod Guarding
 pub mod Keeping
 pub mod Refusing

@@ -7,6 +7,8 @@ use Rattle.wa_ops.specs.Contexts.{calls_of, function_type, parameters_of, result
 use Rattle.wa_ops.specs.HookRules.{IsRuled, is_cbak, is_hook}
 use Rattle.wa_ops.specs.Sequences.{Sequence}
 use Rattle.wa_ops.specs.Functions.{body_of, entry_of}
+use Rattle.wa_ops.specs.Soundness.{IsSound}
+use Rattle.wa_validate.specs.Needs.{AllBodies, AllRowTypes, AreFew}
 use Rattle.hk_bound.specs.Checks.{IsHook, IsRefused}
 use Rattle.hk_bound.specs.declared.fault.CheckFault.{CheckFault}
 use Rattle.hk_bound.specs.declared.fault.CheckFault.TheVariants as fault
@@ -26,6 +28,16 @@ abbrev pub EntryTypes : Type 0
 EntryTypes = (m : Module) (func : ℕ) → IsRuled m
     → (entry_of (length (calls_of m.imports)) is_hook m.exports ≡ Some func) ⊎ (entry_of (length (calls_of m.imports)) is_cbak m.exports ≡ Some func)
     → IsEntryType m func
+
+-- all that `validate` of wa_validate needs of a module
+pub record IsTypable (m : Module) : Type 0 where
+  pub imports : AllRowTypes m.types m.imports
+  pub bodies : AllBodies m.codes
+  pub few : AreFew m.codes
+
+-- a decoded module that meets the rules has it
+abbrev pub Typables : Type 0
+Typables = (m : Module) → IsSound m → IsRuled m → IsTypable m
 
 -- no code that is accepted in a version is refused in it
 abbrev pub OneVerdict : Type 0

@@ -14,4 +14,6 @@ pub use checked::Checked;
 pub use checking::{check, check_at};
 pub use entries::Entry;
 pub use fault::{CheckFault, Export};
-pub use laws::{entry_types, guarded_loops, one_refusal, one_verdict};
+pub use laws::{
+    accepted_is_hook, entry_types, guarded_loops, one_refusal, one_verdict, some_verdict, typables,
+};

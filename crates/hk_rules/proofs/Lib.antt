@@ -4,6 +4,7 @@ pub mod Least
 pub mod Looping
 pub mod Repeats
 pub mod RowsOfCalls
+pub mod Ruling
 pub mod Types
 pub mod Whole
 pub mod CheaperArms

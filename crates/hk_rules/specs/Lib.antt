@@ -3,4 +3,5 @@ pub mod Guards
 pub mod Imports
 pub mod Loops
 pub mod Passing
+pub mod Ruling
 pub mod Sparing

@@ -8,6 +8,7 @@ mod floats;
 mod guards;
 mod imports;
 mod judging;
+mod laws;
 mod loops;
 mod operations;
 mod sections;
@@ -16,4 +17,5 @@ mod sparing;
 
 pub use guards::{FunctionGuards, Guards, LoopGuard};
 pub use judging::rules;
+pub use laws::rules_decided;
 pub use wa_ops::RuleFault;

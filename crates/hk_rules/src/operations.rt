@@ -2,6 +2,7 @@ ghost use Rattle.wa_ops.specs.Contexts.{callees};
 ghost use Rattle.std.specs.Option.{option_map_or};
 ghost use Rattle.std.specs.Prelude.{◌≡◌, ◌==◌, ◌&&◌, false, is_some, length, slice_get};
 ghost use Rattle.wa_ops.specs.HookRules as rule;
+ghost use Rattle.wa_ops.specs.Rows.{guard_row};
 ghost use Rattle.wa_ops.specs.declared.op.ValueType.TheVariants.{I64};
 
 use wa_ops::{CallNo, Op};
@@ -91,10 +92,10 @@ fn has_row(rows: &[CallNo], function: u32) -> bool
 
 /// Whether the function with this index is an import of `_g`.
 fn has_guard_row(rows: &[CallNo], function: u32) -> bool
-    ensures guard { result ≡ option_map_or (λ row. row.0 == 0) (slice_get rows.now function) false }
+    ensures guard { result ≡ option_map_or (λ row. row.0 == guard_row) (slice_get rows.now function) false }
 {
     match rows.get(function as usize) {
-        Some(row) => row.0 == 0,
+        Some(row) => row.0 == CallNo::GUARD.0,
         None => false,
     }
 }

@@ -5,3 +5,4 @@ pub mod Steps
 pub mod Plain
 pub mod Runs
 pub mod Endings
+pub mod Kept

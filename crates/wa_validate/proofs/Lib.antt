@@ -3,3 +3,4 @@ pub mod Carrying
 pub mod Flat
 pub mod Bounds
 pub mod Judging
+pub mod AreTyped

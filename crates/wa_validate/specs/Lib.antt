@@ -4,4 +4,5 @@ pub mod Labels
 pub mod Needs
 pub mod Steps
 pub mod Untyped
+pub mod AreTyped
 pub mod Verdicts

@@ -5,6 +5,7 @@ mod accesses;
 mod body;
 mod depth;
 mod labels;
+mod laws;
 mod open_regions;
 mod operands;
 mod plain;
@@ -13,4 +14,5 @@ mod scope;
 mod validation;
 
 pub use depth::{Depth, Typed};
+pub use laws::typing_decided;
 pub use validation::{TypeFault, validate};

@@ -12,7 +12,7 @@ use wa_ops::{FuncType, ImportItem, Items, Module, ModuleGlobal, NoMemory, ValueT
 /// What the code of a function may name, and its result.
 #[derive(Drop)]
 pub(crate) struct Scope<'a> {
-    module: &'a Module,
+    wasm: &'a Module,
     locals: Items<ValueType>,
     result: Option<ValueType>,
 }
@@ -25,9 +25,9 @@ impl<'a> Model for Scope<'a> {
 
     ghost Value = { Context };
 
-    ghost view = { λ s. record { calls = calls_of s.module.now.imports; locals = s.locals; globals = global_types s.module.now.globals; has_memory = has_items s.module.now.memories; result = s.result } };
+    ghost view = { λ s. record { calls = calls_of s.wasm.now.imports; locals = s.locals; globals = global_types s.wasm.now.globals; has_memory = has_items s.wasm.now.memories; result = s.result } };
 
-    ghost invariant = { λ s. AllRowTypes s.module.now.types s.module.now.imports };
+    ghost invariant = { λ s. AllRowTypes s.wasm.now.types s.wasm.now.imports };
 }
 
 impl<'a> Scope<'a> {
@@ -44,7 +44,7 @@ impl<'a> Scope<'a> {
         let result = add_signature(module, function, &mut locals)?;
         add_locals(module, function, &mut locals)?;
         Ok(Scope {
-            module,
+            wasm: module,
             locals,
             result,
         })
@@ -66,13 +66,13 @@ impl<'a> Scope<'a> {
         ensures none { result ≡ None → slice_get self.now.globals index ≡ None }
         ensures some { IfSome result (λ global. slice_get self.now.globals index ≡ Some (record { kind = global.now.kind; is_mutable = global.now.mutable })) }
     {
-        self.module.globals.as_slice().get(index as usize)
+        self.wasm.globals.as_slice().get(index as usize)
     }
 
     pub(crate) fn has_memory(&self) -> bool
         ensures memory { result ≡ self.now.has_memory }
     {
-        !self.module.memories.as_slice().is_empty()
+        !self.wasm.memories.as_slice().is_empty()
     }
 
     /// The type of the function that a call names.
@@ -80,8 +80,8 @@ impl<'a> Scope<'a> {
         ensures none { result ≡ None → slice_get self.now.calls function ≡ None }
         ensures some { IfSome result (λ t. (callee : Callee) × (slice_get self.now.calls function ≡ Some callee) × IsTypeOf callee t.now) }
     {
-        match self.module.imports.as_slice().get(function as usize) {
-            Some(import) => function_of(self.module, import.item),
+        match self.wasm.imports.as_slice().get(function as usize) {
+            Some(import) => function_of(self.wasm, import.item),
             None => None,
         }
     }
