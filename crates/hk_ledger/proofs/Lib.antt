@@ -1,8 +1,5 @@
-pub mod Kept
-pub mod Copied
-pub mod Newest
-pub mod Fits
 pub mod Whole
+pub mod Bytes
+pub mod Settling
 pub mod Reported
-pub mod Ordered
 pub mod Conserving
