@@ -17,6 +17,7 @@ use Rattle.hk_state.specs.Holdings.{holding_at, with_holding, get-with_holding, 
 use Rattle.hk_state.specs.Balances.{balances, held_most, sum_with}
 use Rattle.hk_state.specs.Entries.{Entries}
 use Rattle.hk_state.specs.Ledger.{LedgerValue}
+use Rattle.hk_state.specs.NativeLaws.{other_key}
 use Rattle.hk_base.specs.Rows.{first_row}
 use Rattle.hk_state.specs.Rows.{none_applies, none_first}
 use Rattle.hk_state.specs.Reserves.{reserve, may_change, reserve-alike}
@@ -73,14 +74,6 @@ paid_sender ledger t is =
 -- a fee that is taken is at most the sum
 pub fee_most : (ledger : LedgerValue) (t : Transaction) → Taken ledger t → t.fee ≤ balances ledger.entries
 fee_most ledger t is = let most = held_most ledger.entries t.account is.holding is.at in let funded = is.funded in omega (arith, most, funded)
-
-other_key : (q : Key) (id : AccountId) → may_change q ≡ false → is_key q (key.Account id) ≡ false
-other_key (key.Account owner) id h = cc
-other_key (key.Other bytes) id h = cc
-other_key (key.Install owner position) id h = refl
-other_key (key.Definition hash) id h = refl
-other_key (key.State owner namespace k) id h = refl
-other_key (key.Emitted number) id h = refl
 
 -- a change of an account leaves each reserve
 pub held_reserve : (m : Entries) (id : AccountId) (balance sequence : ℕ) (other : AccountId) →

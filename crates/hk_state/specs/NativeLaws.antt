@@ -102,7 +102,8 @@ native_accounts header m n t id e is =
       | false ↦ λ same. subst (λ p. IsSome (holding_at p id)) (kept same) is
     ] e
 
-other_key : (q : Key) (id : AccountId) → may_change q ≡ false → is_key q (key.Account id) ≡ false
+-- a key that rules for transactions don't change is no account's
+pub other_key : (q : Key) (id : AccountId) → may_change q ≡ false → is_key q (key.Account id) ≡ false
 other_key (key.Account owner) id h = cc
 other_key (key.Other bytes) id h = cc
 other_key (key.Install owner position) id h = refl

@@ -1,5 +1,5 @@
 -- Tables of answers of which no row applies. This project's own.
-use Rattle.std.specs.Prelude.{◌≡◌, Bool, true, false, cond, List, [], ◌∷◌, Option, Some, None, refl}
+use Rattle.std.specs.Prelude.{◌≡◌, Bool, true, false, cond, List, [], ◌∷◌, Some, None, refl}
 use Rattle.hk_base.specs.Rows.{first_row}
 
 module _ {R : Type 0} where
