@@ -22,8 +22,8 @@ use Rattle.hk_base.specs.Rows.{first_row}
 use Rattle.hk_state.specs.Rows.{none_applies}
 use Rattle.hk_state.specs.Rules.{Rules, KeepsSum}
 use Rattle.hk_ledger.specs.Transactions.{applied, goes_on, refusal_rows}
-use Rattle.hk_ledger.specs.Machine.{State, start, Step, goes, step, opening_total, unless_broken, account_rules, account_lines}
-use Rattle.hk_ledger.specs.Replays.{AddsUp, Conserves, continued, replayed, opened_with}
+use Rattle.hk_ledger.specs.Machine.{State, start, goes, opening_total, unless_broken, account_rules, account_lines}
+use Rattle.hk_ledger.specs.Replays.{AddsUp, continued, replayed, opened_with}
 use Rattle.hk_state.proofs.Told.{is_none}
 
 pub record Mapped {A B : Type 0} (f : A → B) (o : Option A) (y : B) : Type 0 where

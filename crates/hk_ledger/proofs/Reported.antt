@@ -1,12 +1,11 @@
 -- What a transaction leaves that isn't refused.
-use Rattle.std.proofs.Common.{◌≡◌, ℕ, ◌+◌, ◌≤◌, ◌∙◌, ap, subst, sym, arith, refl, [], Some, None}
+use Rattle.std.proofs.Common.{◌≡◌, ℕ, ◌∙◌, ap, subst, sym, arith, refl, [], Some, None}
 use Rattle.xo_object.specs.declared.transaction.Transaction.{Transaction}
 use Rattle.hk_lines.specs.declared.verdict.Verdict.{Verdict}
 use Rattle.hk_lines.specs.declared.result_name.ResultName.{ResultName}
 use Rattle.hk_reading.specs.declared.reading.Reading.TheVariants as reading
 use Rattle.hk_ledger.specs.declared.report.Report.{Report}
-use Rattle.hk_state.specs.Balances.{balances}
-use Rattle.hk_ledger.specs.Conserved.{Taken, taken, settled_sum, settled_reserve}
+use Rattle.hk_ledger.specs.Conserved.{taken, settled_sum, settled_reserve}
 use Rattle.hk_state.specs.Ledger.{LedgerValue}
 use Rattle.hk_ledger.specs.Reports.{Reports}
 use Rattle.hk_base.specs.Rows.{first_row}

@@ -1,5 +1,5 @@
 -- What the writes of an event make of the ledger.
-use Rattle.std.proofs.Common.{◌≡◌, ◌∙◌, ℕ, ◌+◌, ◌-◌, ap, subst, arith, Option, Some}
+use Rattle.std.proofs.Common.{◌≡◌, ◌∙◌, ℕ, ◌+◌, ◌-◌, ap, subst, arith, Some}
 use Rattle.hk_base.specs.declared.ids.AccountId.{AccountId}
 use Rattle.xo_object.specs.declared.transaction.Transaction.{Transaction}
 use Rattle.hk_lines.specs.declared.result_name.ResultName.{ResultName}

@@ -1,10 +1,9 @@
 -- Worlds that stay whole: no drop comes or goes.
 use Rattle.std.proofs.Common.{◌≡◌, ℕ, ◌+◌, ◌≤◌, subst, sym, arith, None}
 use Rattle.hk_base.specs.declared.ids.AccountId.{AccountId}
-use Rattle.hk_state.specs.declared.entry.Holding.{Holding}
 use Rattle.hk_state.specs.Holdings.{holding_at}
-use Rattle.hk_state.specs.Balances.{balances, balances-empty, sum_new}
-use Rattle.hk_state.specs.Reserves.{reserve, reserve-empty}
+use Rattle.hk_state.specs.Balances.{balances-empty, sum_new}
+use Rattle.hk_state.specs.Reserves.{reserve-empty}
 use Rattle.hk_ledger.specs.Conserved.{held_reserve}
 use Rattle.hk_state.specs.Ledger.{LedgerValue, new_ledger}
 use Rattle.hk_ledger.specs.World.{IsWhole, with_account, most_drops}

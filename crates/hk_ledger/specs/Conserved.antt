@@ -1,18 +1,12 @@
 -- No drop comes or goes: what changes of an account do to the sum of balances. This project's own.
-use Rattle.std.specs.Prelude.{◌≡◌, ℕ, ◌+◌, ◌-◌, ◌≤◌, ◌<◌, Bool, true, false, cond, nat_lt, List, [], ◌∷◌, Option, Some, None, IsSome, is_some, refl}
+use Rattle.std.specs.Prelude.{◌≡◌, ℕ, ◌+◌, ◌-◌, ◌≤◌, Option, Some, None, IsSome, is_some, refl}
 use Rattle.std.proofs.Common.{◌∙◌, ap, sym, subst, arith, rules}
-use Rattle.std.specs.FinMap.{get}
 use Rattle.std.proofs.lemmas.Bool.{ltb-false}
 use Rattle.hk_base.specs.declared.ids.AccountId.{AccountId}
 use Rattle.xo_object.specs.declared.transaction.Transaction.{Transaction}
-use Rattle.hk_lines.specs.declared.result_name.ResultName.{ResultName}
 use Rattle.hk_lines.specs.declared.result_name.ResultName.TheVariants.{BadSignature}
 use Rattle.hk_lines.specs.declared.verdict.Verdict.{Verdict}
-use Rattle.hk_state.specs.declared.key.Key.{Key}
-use Rattle.hk_state.specs.declared.key.Key.TheVariants as key
-use Rattle.hk_state.specs.declared.ledger.Header.{Header}
 use Rattle.hk_state.specs.declared.entry.Holding.{Holding}
-use Rattle.hk_state.specs.Keys.{key_cmp, is_key}
 use Rattle.hk_state.specs.Holdings.{holding_at, with_holding, get-with_holding, stays}
 use Rattle.hk_state.specs.Balances.{balances, held_most, sum_with}
 use Rattle.hk_state.specs.Entries.{Entries}
@@ -20,8 +14,8 @@ use Rattle.hk_state.specs.Ledger.{LedgerValue}
 use Rattle.hk_state.specs.NativeLaws.{other_key}
 use Rattle.hk_base.specs.Rows.{first_row}
 use Rattle.hk_state.specs.Rows.{none_applies, none_first}
-use Rattle.hk_state.specs.Reserves.{reserve, may_change, reserve-alike}
-use Rattle.hk_state.specs.Rules.{Rules, Effect, keeps, fails, KeepsSum, KeepsOthers}
+use Rattle.hk_state.specs.Reserves.{reserve, reserve-alike}
+use Rattle.hk_state.specs.Rules.{Rules, keeps, fails, KeepsSum, KeepsOthers}
 use Rattle.hk_ledger.specs.Transactions.{refusal_rows, account_rows, is_bad, paid, paid_from, settled}
 
 -- what holds of a transaction that isn't refused

@@ -1,5 +1,5 @@
 -- What a transaction does to the ledger: its results in their order, and what each of them keeps. This project's own.
-use Rattle.std.specs.Prelude.{◌≡◌, ℕ, ◌+◌, ◌-◌, ◌<◌, Bool, true, false, nat_lt, List, [], ◌∷◌, Option, Some, None}
+use Rattle.std.specs.Prelude.{◌≡◌, ℕ, ◌+◌, ◌-◌, Bool, true, false, nat_lt, List, [], ◌∷◌, Option, Some, None}
 use Rattle.xo_object.specs.declared.transaction.Transaction.{Transaction}
 use Rattle.hk_lines.specs.declared.verdict.Verdict.{Verdict}
 use Rattle.hk_lines.specs.declared.verdict.Verdict.TheVariants.{Good, Bad}
@@ -7,7 +7,6 @@ use Rattle.hk_lines.specs.declared.result_name.ResultName.{ResultName}
 use Rattle.hk_lines.specs.declared.result_name.ResultName.TheVariants.{TooLong, Unparsed, Malformed, BadSignature, NoAccount, PastSequence, FutureSequence, Early, Expired, FeeTooSmall, FeeUnfunded, Success}
 use Rattle.hk_reading.specs.declared.reading.Reading.{Reading}
 use Rattle.hk_reading.specs.declared.reading.Reading.TheVariants as reading
-use Rattle.hk_state.specs.declared.ledger.Header.{Header}
 use Rattle.hk_state.specs.declared.entry.Holding.{Holding}
 use Rattle.hk_state.specs.Entries.{Entries}
 use Rattle.hk_state.specs.Holdings.{holding_at, with_holding}

@@ -2,7 +2,6 @@
 use Rattle.std.specs.Prelude.{◌≡◌, ℕ, ◌+◌, ◌≤◌, refl}
 use Rattle.std.specs.Coded.{Coded, code_by, coded×, coded_ℕ}
 use Rattle.hk_base.specs.declared.ids.AccountId.{AccountId}
-use Rattle.hk_state.specs.declared.ledger.Header.{Header}
 use Rattle.hk_state.specs.Holdings.{with_holding}
 use Rattle.hk_state.specs.Ledger.{LedgerValue, new_ledger, coded_ledger}
 use Rattle.hk_state.specs.Reserves.{reserve}

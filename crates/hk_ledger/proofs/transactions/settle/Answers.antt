@@ -1,4 +1,4 @@
-use Rattle.std.proofs.Common.{◌≤◌, ◌<◌, ◌^◌, sym, ap, subst, arith, IsSome}
+use Rattle.std.proofs.Common.{sym, ap, subst, arith, IsSome}
 use Rattle.hk_state.specs.Balances.{balances}
 use Rattle.hk_state.specs.Holdings.{holding_at}
 use Rattle.hk_state.specs.Reserves.{reserve}
