@@ -14,16 +14,17 @@ use Rattle.xo_object.specs.declared.transaction.Transaction.{Transaction}
 use Rattle.hk_reading.specs.declared.reading.Reading.{Reading}
 use Rattle.hk_reading.specs.declared.reading.Reading.TheVariants as reading
 use Rattle.hk_reading.specs.Reading.{reading as reading_of}
-use Rattle.hk_ledger.specs.Balances.{balances, balances-empty}
-use Rattle.hk_ledger.specs.Conserved.{taken, settled_sum, sum_new}
-use Rattle.hk_ledger.specs.Holdings.{holding_at}
-use Rattle.hk_ledger.specs.Ledger.{LedgerValue}
-use Rattle.hk_ledger.specs.Rows.{first_row, none_applies}
-use Rattle.hk_ledger.specs.Rules.{Rules, KeepsSum}
+use Rattle.hk_state.specs.Balances.{balances, balances-empty, sum_new}
+use Rattle.hk_ledger.specs.Conserved.{taken, settled_sum}
+use Rattle.hk_state.specs.Holdings.{holding_at}
+use Rattle.hk_state.specs.Ledger.{LedgerValue}
+use Rattle.hk_base.specs.Rows.{first_row}
+use Rattle.hk_state.specs.Rows.{none_applies}
+use Rattle.hk_state.specs.Rules.{Rules, KeepsSum}
 use Rattle.hk_ledger.specs.Transactions.{applied, goes_on, refusal_rows}
-use Rattle.hk_ledger.specs.Machine.{State, start, Step, goes, step, opening_total, unless_broken, account_rules, account_lines}
-use Rattle.hk_ledger.specs.Replays.{AddsUp, Conserves, continued, replayed, opened_with}
-use Rattle.hk_ledger.proofs.Whole.{none_of}
+use Rattle.hk_ledger.specs.Machine.{State, start, goes, opening_total, unless_broken, account_rules, account_lines}
+use Rattle.hk_ledger.specs.Replays.{AddsUp, continued, replayed, opened_with}
+use Rattle.hk_state.proofs.Told.{is_none}
 
 pub record Mapped {A B : Type 0} (f : A → B) (o : Option A) (y : B) : Type 0 where
   pub from : A
@@ -35,7 +36,8 @@ mapped f None y h = cc
 mapped f (Some x) y h = record { from = x; at = refl; to = ap (λ r. unwrap_or r (f x)) h }
 
 -- lines that are printed before
-behind : (shown more whole : List OutputLine) (total : ℕ) → shown ++ more ≡ whole → AddsUp total more → AddsUp total whole
+behind : (shown more whole : List OutputLine) (total : ℕ) → shown ++ more ≡ whole → AddsUp total more →
+    AddsUp total whole
 behind shown more whole total is adds = record {
   front = shown ++ adds.front;
   balances = adds.balances;
@@ -58,19 +60,21 @@ goes_on_sum rules ledger verdict t None law is = settled_sum rules ledger t law 
 goes_on_sum rules ledger verdict t (Some name) law is = refl
 
 -- a transaction keeps the total
-pub applied_sum : (rules : Rules) (ledger : LedgerValue) (verdict : Verdict) (read : Reading) → KeepsSum rules → opening_total (applied rules ledger verdict read).ledger ≡ opening_total ledger
+pub applied_sum : (rules : Rules) (ledger : LedgerValue) (verdict : Verdict) (read : Reading) → KeepsSum rules →
+    opening_total (applied rules ledger verdict read).ledger ≡ opening_total ledger
 applied_sum rules ledger verdict reading.TooLong law = refl
 applied_sum rules ledger verdict reading.Unparsed law = refl
 applied_sum rules ledger verdict reading.Malformed law = refl
 applied_sum rules ledger verdict (reading.Transaction t) law = goes_on_sum rules ledger verdict t (first_row (refusal_rows ledger verdict t)) law refl
 
 module _ (rules : Rules) (law : KeepsSum rules) where
-  adds_up : (lines : List InputLine) (s : State) (shown : List OutputLine) → replayed rules s lines ≡ Some shown → AddsUp (opening_total s.ledger + opened_with lines) shown
+  adds_up : (lines : List InputLine) (s : State) (shown : List OutputLine) → replayed rules s lines ≡ Some shown →
+      AddsUp (opening_total s.ledger + opened_with lines) shown
   adds_up [] s shown h = cc
   adds_up (Account id balance sequence ∷ lines) s shown h =
       let go = went (first_row (account_rules s.ledger id balance)) _ [] shown (λ next. replayed rules next lines) h in
       let more = adds_up lines _ go.rest.from go.rest.at in
-      let absent = none_of (holding_at s.ledger.entries id) (none_applies (account_rules s.ledger id balance) go.right).1.0 in
+      let absent = is_none (holding_at s.ledger.entries id) (none_applies (account_rules s.ledger id balance) go.right).1.0 in
       let sum = sum_new s.ledger.entries id balance sequence absent in
       let total : _ ≡ opening_total s.ledger + (balance + opened_with lines) = omega (arith, sum) in
       behind [] go.rest.from shown _ go.rest.to (subst (λ n. AddsUp n go.rest.from) total more)
@@ -91,7 +95,8 @@ module _ (rules : Rules) (law : KeepsSum rules) where
     sum = omega arith;
   }
 
-  pub conserved : (lines : List InputLine) (shown : List OutputLine) → replayed rules start lines ≡ Some shown → AddsUp (opened_with lines) shown
+  pub conserved : (lines : List InputLine) (shown : List OutputLine) → replayed rules start lines ≡ Some shown →
+      AddsUp (opened_with lines) shown
   conserved lines shown h =
       let none = balances-empty in
       let total : opening_total start.ledger + opened_with lines ≡ opened_with lines = omega (arith, none) in

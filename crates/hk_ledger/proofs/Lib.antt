@@ -1,8 +1,4 @@
-pub mod Kept
-pub mod Copied
-pub mod Newest
-pub mod Fits
 pub mod Whole
+pub mod Settling
 pub mod Reported
-pub mod Ordered
 pub mod Conserving

@@ -1,54 +1,22 @@
 -- No drop comes or goes: what changes of an account do to the sum of balances. This project's own.
-use Rattle.std.specs.Prelude.{◌≡◌, ℕ, ◌+◌, ◌-◌, ◌≤◌, ◌<◌, Bool, true, false, cond, nat_lt, List, [], ◌∷◌, Option, Some, None, IsSome, is_some, refl}
+use Rattle.std.specs.Prelude.{◌≡◌, ℕ, ◌+◌, ◌-◌, ◌≤◌, Option, Some, None, IsSome, is_some, refl}
 use Rattle.std.proofs.Common.{◌∙◌, ap, sym, subst, arith, rules}
-use Rattle.std.specs.Option.{unwrap_or}
-use Rattle.std.specs.FinMap.{FinMap, get, insert}
 use Rattle.std.proofs.lemmas.Bool.{ltb-false}
 use Rattle.hk_base.specs.declared.ids.AccountId.{AccountId}
 use Rattle.xo_object.specs.declared.transaction.Transaction.{Transaction}
-use Rattle.hk_lines.specs.declared.result_name.ResultName.{ResultName}
 use Rattle.hk_lines.specs.declared.result_name.ResultName.TheVariants.{BadSignature}
 use Rattle.hk_lines.specs.declared.verdict.Verdict.{Verdict}
-use Rattle.hk_ledger.specs.declared.key.Key.{Key}
-use Rattle.hk_ledger.specs.declared.key.Key.TheVariants as key
-use Rattle.hk_ledger.specs.declared.entry.Entry.{Entry}
-use Rattle.hk_ledger.specs.declared.entry.Entry.TheVariants as entry
-use Rattle.hk_ledger.specs.declared.ledger.Header.{Header}
-use Rattle.hk_ledger.specs.declared.holding.Holding.{Holding}
-use Rattle.hk_ledger.specs.Keys.{key_cmp, is_key}
-use Rattle.hk_ledger.specs.Holdings.{as_holding, holding_at, with_holding, stays}
-use Rattle.hk_ledger.specs.Balances.{balances, balance_or_zero, balances-insert, one_balance}
-use Rattle.hk_ledger.specs.Ledger.{LedgerValue}
-use Rattle.hk_ledger.specs.Rows.{first_row, none_applies, none_first}
-use Rattle.hk_ledger.specs.Rules.{Rules, Effect, keeps, fails, KeepsSum}
+use Rattle.hk_state.specs.declared.entry.Holding.{Holding}
+use Rattle.hk_state.specs.Holdings.{holding_at, with_holding, get-with_holding, stays}
+use Rattle.hk_state.specs.Balances.{balances, held_most, sum_with}
+use Rattle.hk_state.specs.Entries.{Entries}
+use Rattle.hk_state.specs.Ledger.{LedgerValue}
+use Rattle.hk_state.specs.NativeLaws.{other_key}
+use Rattle.hk_base.specs.Rows.{first_row}
+use Rattle.hk_state.specs.Rows.{none_applies, none_first}
+use Rattle.hk_state.specs.Reserves.{reserve, reserve-alike}
+use Rattle.hk_state.specs.Rules.{Rules, keeps, fails, KeepsSum, KeepsOthers}
 use Rattle.hk_ledger.specs.Transactions.{refusal_rows, account_rows, is_bad, paid, paid_from, settled}
-
-pub held : (found : Option Entry) (h : Holding) → as_holding found ≡ Some h → balance_or_zero found ≡ h.balance
-held None h e = cc
-held (Some (entry.Account balance sequence)) h e = ap (λ o. (unwrap_or o h).balance) e
-held (Some (entry.Other bytes)) h e = cc
-
-pub not_held : (found : Option Entry) → as_holding found ≡ None → balance_or_zero found ≡ 0
-not_held None e = refl
-not_held (Some (entry.Account balance sequence)) e = cc
-not_held (Some (entry.Other bytes)) e = refl
-
--- a balance is at most the sum
-pub held_most : (m : FinMap key_cmp Entry) (id : AccountId) (h : Holding) → holding_at m id ≡ Some h → h.balance ≤ balances m
-held_most m id h at = let worth = held (get m (key.Account id)) h at in let most = one_balance m (key.Account id) in omega (arith, worth, most)
-
--- a new balance in place of the old one
-pub sum_with : (m : FinMap key_cmp Entry) (id : AccountId) (h : Holding) (balance sequence : ℕ) → holding_at m id ≡ Some h → balances (with_holding m id balance sequence) + h.balance ≡ balances m + balance
-sum_with m id h balance sequence at =
-    let worth = held (get m (key.Account id)) h at in
-    let put = balances-insert m (key.Account id) (entry.Account balance sequence) in
-    omega (arith, worth, put)
-
-pub sum_new : (m : FinMap key_cmp Entry) (id : AccountId) (balance sequence : ℕ) → holding_at m id ≡ None → balances (with_holding m id balance sequence) ≡ balances m + balance
-sum_new m id balance sequence at =
-    let worth = not_held (get m (key.Account id)) at in
-    let put = balances-insert m (key.Account id) (entry.Account balance sequence) in
-    omega (arith, worth, put)
 
 -- what holds of a transaction that isn't refused
 pub record Taken (ledger : LedgerValue) (t : Transaction) : Type 0 where
@@ -57,7 +25,9 @@ pub record Taken (ledger : LedgerValue) (t : Transaction) : Type 0 where
   pub sequence : holding.sequence ≡ t.sequence
   pub funded : t.fee ≤ holding.balance
 
-taken_rows : (ledger : LedgerValue) (t : Transaction) (found : Option Holding) → holding_at ledger.entries t.account ≡ found → first_row (account_rows ledger.header.seq t found) ≡ None → Taken ledger t
+taken_rows : (ledger : LedgerValue) (t : Transaction) (found : Option Holding) →
+    holding_at ledger.entries t.account ≡ found → first_row (account_rows ledger.header.seq t found) ≡ None →
+    Taken ledger t
 taken_rows ledger t None at h = cc
 taken_rows ledger t (Some holding) at h =
     let none = none_applies (account_rows ledger.header.seq t (Some holding)) h in
@@ -65,11 +35,13 @@ taken_rows ledger t (Some holding) at h =
     let high = ltb-false holding.sequence t.sequence none.1.0 in
     record { holding = holding; at = at; sequence = omega (arith, low, high); funded = ltb-false holding.balance t.fee none.1.1.1.1.1.0 }
 
-pub taken : (ledger : LedgerValue) (verdict : Verdict) (t : Transaction) → first_row (refusal_rows ledger verdict t) ≡ None → Taken ledger t
+pub taken : (ledger : LedgerValue) (verdict : Verdict) (t : Transaction) →
+    first_row (refusal_rows ledger verdict t) ≡ None → Taken ledger t
 taken ledger verdict t h = taken_rows ledger t (holding_at ledger.entries t.account) refl (none_first (is_bad verdict, BadSignature) (account_rows ledger.header.seq t (holding_at ledger.entries t.account)) h)
 
 -- fee and sequence, taken from an account that has the fee
-pub paid_sum : (ledger : LedgerValue) (t : Transaction) → Taken ledger t → balances (paid ledger.entries t) + t.fee ≡ balances ledger.entries
+pub paid_sum : (ledger : LedgerValue) (t : Transaction) → Taken ledger t →
+    balances (paid ledger.entries t) + t.fee ≡ balances ledger.entries
 paid_sum ledger t is =
     let same : paid ledger.entries t ≡ paid_from ledger.entries t (Some is.holding) = ap (paid_from ledger.entries t) is.at in
     let put = sum_with ledger.entries t.account is.holding (is.holding.balance - t.fee) (is.holding.sequence + 1) is.at in
@@ -86,7 +58,8 @@ settled_sum rules ledger t law is =
     ] refl
 
 -- an account that has paid is still there
-pub paid_sender : (ledger : LedgerValue) (t : Transaction) → Taken ledger t → IsSome (holding_at (paid ledger.entries t) t.account)
+pub paid_sender : (ledger : LedgerValue) (t : Transaction) → Taken ledger t →
+    IsSome (holding_at (paid ledger.entries t) t.account)
 paid_sender ledger t is =
     let here : IsSome (holding_at ledger.entries t.account) = ap is_some is.at in
     subst (λ found. IsSome (holding_at (paid_from ledger.entries t found) t.account)) (sym is.at)
@@ -95,3 +68,26 @@ paid_sender ledger t is =
 -- a fee that is taken is at most the sum
 pub fee_most : (ledger : LedgerValue) (t : Transaction) → Taken ledger t → t.fee ≤ balances ledger.entries
 fee_most ledger t is = let most = held_most ledger.entries t.account is.holding is.at in let funded = is.funded in omega (arith, most, funded)
+
+-- a change of an account leaves each reserve
+pub held_reserve : (m : Entries) (id : AccountId) (balance sequence : ℕ) (other : AccountId) →
+    reserve (with_holding m id balance sequence) other ≡ reserve m other
+held_reserve m id balance sequence other = reserve-alike m (with_holding m id balance sequence) other (λ q h. get-with_holding m id balance sequence q (other_key q id h))
+
+paid_from_reserve : (m : Entries) (t : Transaction) (found : Option Holding) (other : AccountId) →
+    reserve (paid_from m t found) other ≡ reserve m other
+paid_from_reserve m t None other = refl
+paid_from_reserve m t (Some holding) other = held_reserve m t.account (holding.balance - t.fee) (holding.sequence + 1) other
+
+pub paid_reserve : (m : Entries) (t : Transaction) (other : AccountId) → reserve (paid m t) other ≡ reserve m other
+paid_reserve m t other = paid_from_reserve m t (holding_at m t.account) other
+
+-- and so does a transaction
+pub settled_reserve : (rules : Rules) (ledger : LedgerValue) (t : Transaction) (other : AccountId) →
+    KeepsOthers rules →
+    reserve (settled ledger t (rules ledger.header (paid ledger.entries t) t)).ledger.entries other ≡ reserve ledger.entries other
+settled_reserve rules ledger t other law =
+    elim (rules ledger.header (paid ledger.entries t) t) as (λ effect. rules ledger.header (paid ledger.entries t) t ≡ effect → reserve (settled ledger t effect).ledger.entries other ≡ reserve ledger.entries other) [
+      | keeps n ↦ λ e. reserve-alike (paid ledger.entries t) n other (λ q h. law ledger.header (paid ledger.entries t) n t q e h) ∙ paid_reserve ledger.entries t other
+      | fails name ↦ λ e. paid_reserve ledger.entries t other
+    ] refl

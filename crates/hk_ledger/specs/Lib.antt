@@ -1,14 +1,5 @@
-pub mod Keys
-pub mod Writes
-pub mod Holdings
-pub mod Ledger
-pub mod Balances
-pub mod Rows
-pub mod Rules
 pub mod Transactions
-pub mod Native
 pub mod Conserved
-pub mod NativeLaws
 pub mod World
 pub mod Machine
 pub mod Reports

@@ -1,7 +1,7 @@
 -- The ledger machine, line by line. This project's own.
-use Rattle.std.specs.Prelude.{◌≡◌, ℕ, ◌+◌, ◌≤◌, Bool, true, false, not, nat_lt, nat_le, List, [], ◌∷◌, ◌++◌, Option, Some, None, is_some, refl}
+use Rattle.std.specs.Prelude.{◌≡◌, ℕ, ◌+◌, ◌≤◌, Bool, not, nat_lt, nat_le, List, [], ◌∷◌, ◌++◌, Option, Some, None, is_some, refl}
 use Rattle.std.specs.Coded.{Coded, code_by, coded×, coded_ℕ}
-use Rattle.std.specs.FinMap.{FinMap, entries}
+use Rattle.std.specs.FinMap.{entries}
 use Rattle.hk_base.specs.declared.ids.AccountId.{AccountId}
 use Rattle.hk_lines.specs.declared.input_line.InputLine.{InputLine}
 use Rattle.hk_lines.specs.declared.input_line.InputLine.TheVariants.{Account, Ledger, Tx, Hook, End}
@@ -13,21 +13,19 @@ use Rattle.hk_lines.specs.declared.verdict.Verdict.{Verdict}
 use Rattle.hk_base.specs.declared.ids.Hash256.{Hash256}
 use Rattle.hk_reading.specs.declared.reading.Reading.{Reading}
 use Rattle.hk_reading.specs.Reading.{reading}
-use Rattle.hk_ledger.specs.declared.key.Key.{Key}
-use Rattle.hk_ledger.specs.declared.key.Key.TheVariants as key
-use Rattle.hk_ledger.specs.declared.entry.Entry.{Entry}
-use Rattle.hk_ledger.specs.declared.entry.Entry.TheVariants as entry
-use Rattle.hk_ledger.specs.declared.ledger.Header.{Header}
+use Rattle.hk_state.specs.declared.key.Key.{Key}
+use Rattle.hk_state.specs.declared.key.Key.TheVariants as key
+use Rattle.hk_state.specs.declared.entry.Entry.{Entry}
+use Rattle.hk_state.specs.declared.entry.Entry.TheVariants as entry
 use Rattle.hk_ledger.specs.declared.replay.Stepped.{Stepped}
 use Rattle.hk_ledger.specs.declared.replay.Stepped.TheVariants.{Goes, Ends, Breaks}
-use Rattle.hk_ledger.specs.Keys.{key_cmp}
-use Rattle.hk_ledger.specs.Holdings.{holding_at, with_holding}
-use Rattle.hk_ledger.specs.Balances.{balances}
-use Rattle.hk_ledger.specs.Ledger.{LedgerValue, new_ledger, coded_ledger}
-use Rattle.hk_ledger.specs.Rows.{first_row}
-use Rattle.hk_ledger.specs.Rules.{Rules}
+use Rattle.hk_state.specs.Holdings.{holding_at}
+use Rattle.hk_state.specs.Balances.{balances}
+use Rattle.hk_state.specs.Ledger.{LedgerValue, new_ledger, coded_ledger, with_header}
+use Rattle.hk_base.specs.Rows.{first_row}
+use Rattle.hk_state.specs.Rules.{Rules}
 use Rattle.hk_ledger.specs.Transactions.{Applied, applied}
-use Rattle.hk_ledger.specs.World.{most_drops, with_account, with_header}
+use Rattle.hk_ledger.specs.World.{most_drops, with_account}
 
 -- a ledger, and how many transactions came before
 pub record State : Type 0 where

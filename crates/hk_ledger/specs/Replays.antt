@@ -5,7 +5,7 @@ use Rattle.hk_lines.specs.declared.input_line.InputLine.{InputLine}
 use Rattle.hk_lines.specs.declared.input_line.InputLine.TheVariants.{Account, End}
 use Rattle.hk_lines.specs.declared.output_line.OutputLine.{OutputLine}
 use Rattle.hk_lines.specs.declared.output_line.OutputLine.TheVariants.{FinalTotal, Done}
-use Rattle.hk_ledger.specs.Rules.{Rules}
+use Rattle.hk_state.specs.Rules.{Rules}
 use Rattle.hk_ledger.specs.Machine.{State, start, Step, goes, ends, breaks, step}
 
 abbrev pub continued : Step → (State → Option (List OutputLine)) → Option (List OutputLine)

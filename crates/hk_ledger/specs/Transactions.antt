@@ -1,6 +1,5 @@
 -- What a transaction does to the ledger: its results in their order, and what each of them keeps. This project's own.
-use Rattle.std.specs.Prelude.{◌≡◌, ℕ, ◌+◌, ◌-◌, ◌<◌, Bool, true, false, nat_lt, List, [], ◌∷◌, Option, Some, None}
-use Rattle.std.specs.FinMap.{FinMap}
+use Rattle.std.specs.Prelude.{◌≡◌, ℕ, ◌+◌, ◌-◌, Bool, true, false, nat_lt, List, [], ◌∷◌, Option, Some, None}
 use Rattle.xo_object.specs.declared.transaction.Transaction.{Transaction}
 use Rattle.hk_lines.specs.declared.verdict.Verdict.{Verdict}
 use Rattle.hk_lines.specs.declared.verdict.Verdict.TheVariants.{Good, Bad}
@@ -8,14 +7,17 @@ use Rattle.hk_lines.specs.declared.result_name.ResultName.{ResultName}
 use Rattle.hk_lines.specs.declared.result_name.ResultName.TheVariants.{TooLong, Unparsed, Malformed, BadSignature, NoAccount, PastSequence, FutureSequence, Early, Expired, FeeTooSmall, FeeUnfunded, Success}
 use Rattle.hk_reading.specs.declared.reading.Reading.{Reading}
 use Rattle.hk_reading.specs.declared.reading.Reading.TheVariants as reading
-use Rattle.hk_ledger.specs.declared.entry.Entry.{Entry}
-use Rattle.hk_ledger.specs.declared.ledger.Header.{Header}
-use Rattle.hk_ledger.specs.declared.holding.Holding.{Holding}
-use Rattle.hk_ledger.specs.Keys.{key_cmp}
-use Rattle.hk_ledger.specs.Holdings.{holding_at, with_holding}
-use Rattle.hk_ledger.specs.Ledger.{LedgerValue}
-use Rattle.hk_ledger.specs.Rows.{first_row}
-use Rattle.hk_ledger.specs.Rules.{Rules, Effect, keeps, fails}
+use Rattle.hk_state.specs.declared.entry.Holding.{Holding}
+use Rattle.hk_state.specs.Entries.{Entries}
+use Rattle.hk_state.specs.Holdings.{holding_at, with_holding}
+use Rattle.hk_state.specs.Ledger.{LedgerValue}
+use Rattle.hk_base.specs.Rows.{first_row}
+use Rattle.hk_state.specs.Rules.{Rules, Effect, keeps, fails, IsOfItsBytes}
+
+-- a transaction that was read is what its bytes read as
+abbrev pub IsOfBytes : Reading → Type 0
+IsOfBytes (reading.Transaction t) = IsOfItsBytes t
+IsOfBytes other = Unit {0}
 
 abbrev pub is_bad : Verdict → Bool
 is_bad Good = false
@@ -50,11 +52,11 @@ abbrev pub refusal_rows : LedgerValue → Verdict → Transaction → List (Bool
 refusal_rows ledger verdict t = (is_bad verdict, BadSignature) ∷ account_rows ledger.header.seq t (holding_at ledger.entries t.account)
 
 -- fee and sequence are taken
-abbrev pub paid_from : FinMap key_cmp Entry → Transaction → Option Holding → FinMap key_cmp Entry
+abbrev pub paid_from : Entries → Transaction → Option Holding → Entries
 paid_from m t None = m
 paid_from m t (Some holding) = with_holding m t.account (holding.balance - t.fee) (holding.sequence + 1)
 
-abbrev pub paid : FinMap key_cmp Entry → Transaction → FinMap key_cmp Entry
+abbrev pub paid : Entries → Transaction → Entries
 paid m t = paid_from m t (holding_at m t.account)
 
 -- what an event leaves: the ledger, the result, and the fee that was burnt
@@ -67,7 +69,7 @@ abbrev pub refused : LedgerValue → ResultName → Applied
 refused ledger name = record { ledger = ledger; result = name; fee = 0 }
 
 -- these entries, with the fee burnt
-abbrev pub charged : LedgerValue → Transaction → FinMap key_cmp Entry → LedgerValue
+abbrev pub charged : LedgerValue → Transaction → Entries → LedgerValue
 charged ledger t m = record ledger { entries = m; burnt = ledger.burnt + t.fee }
 
 -- a transaction that fails keeps fee and sequence alone

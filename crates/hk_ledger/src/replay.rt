@@ -4,9 +4,10 @@ ghost use Rattle.hk_ledger.specs.Machine.{start, Steps, account_step, ledger_ste
 ghost use Rattle.hk_reading.specs.Reading.{reading};
 ghost use Rattle.hk_ledger.specs.World.{most_drops};
 
-use crate::{OpenFault, Transactor, World, apply, open_account, open_ledger};
+use crate::{OpenFault, World, apply, open_account, open_ledger};
 use hk_base::{AccountId, Hash256, Items, NoMemory};
 use hk_lines::{InputLine, OutputLine, Rule, Verdict};
+use hk_state::Transactor;
 use std::alloc::{AllocError, Global};
 use std::marker::Model;
 

@@ -1,18 +1,22 @@
 //! Transactions: their results in order, and what each of them keeps.
 ghost use Rattle.std.specs.Prelude.{◌≡◌, ◌+◌, ◌<◌, ◌≤◌, length, IfOk, IsOk, OnErr, OnOk};
 ghost use Rattle.hk_ledger.specs.Conserved.{Taken};
-ghost use Rattle.hk_ledger.specs.Balances.{balances};
+ghost use Rattle.hk_state.specs.Balances.{balances};
 ghost use Rattle.hk_ledger.specs.Reports.{Reports};
-ghost use Rattle.hk_ledger.specs.Rows.{first_row};
-ghost use Rattle.hk_ledger.specs.Transactions.{applied, refusal_rows, account_rows, is_before, is_after, paid, settled, Ends};
-ghost use Rattle.hk_ledger.specs.Writes.{with_writes};
+ghost use Rattle.hk_base.specs.declared.ids.AccountId.{AccountId};
+ghost use Rattle.hk_state.specs.Reserves.{reserve};
+ghost use Rattle.hk_state.specs.Rules.{IsOfItsBytes};
+ghost use Rattle.hk_base.specs.Rows.{first_row};
+ghost use Rattle.hk_ledger.specs.Transactions.{IsOfBytes, applied, refusal_rows, account_rows, is_before, is_after, paid, settled, Ends};
+ghost use Rattle.hk_state.specs.Writes.{with_writes};
 ghost use Rattle.hk_reading.specs.Reading.{reading};
 ghost use Rattle.hk_reading.specs.Readings.{IsCountable, longest};
 
-use crate::{Done, Holding, Ledger, Overlay, Report, Transactor, World};
+use crate::{Report, World};
 use hk_base::NoMemory;
 use hk_lines::{ResultName, Verdict};
 use hk_reading::{Reading, read};
+use hk_state::{Done, Holding, Ledger, Overlay, Transactor};
 use std::alloc::Global;
 use xo_object::Transaction;
 
@@ -91,13 +95,14 @@ fn charge(alloc: Global, ledger: &Ledger, transaction: &Transaction) -> Result<O
     ensures paid { IfOk result (λ overlay. with_writes ledger.now.entries overlay ≡ paid ledger.now.entries transaction.now) }
 {
     let mut overlay = Overlay::new(alloc);
-    if let Some(holding) = ledger.holding(&transaction.account) {
-        let left = Holding {
-            balance: holding.balance - transaction.fee,
-            sequence: holding.sequence + 1,
-        };
-        overlay.put_holding(&transaction.account, left)?;
-    }
+    let Some(holding) = ledger.holding(&transaction.account) else {
+        return Ok(overlay);
+    };
+    let left = Holding {
+        balance: holding.balance - transaction.fee,
+        sequence: holding.sequence + 1,
+    };
+    overlay.put_holding(&transaction.account, left)?;
     Ok(overlay)
 }
 
@@ -112,16 +117,23 @@ fn settle<T: Transactor>(
     requires sequence { transaction.now.sequence < 4294967295 }
     requires sum { balances ledger.old.entries + ledger.old.burnt ≤ 100000000000000000 }
     requires next { ledger.old.next ≤ 9223372036854775807 }
+    requires reserves { (id : AccountId) → reserve ledger.old.entries id ≤ 100000000000000000 }
+    requires bytes { IsOfItsBytes transaction.now }
     ensures ok { IfOk result (λ name. Ends (settled ledger.old transaction.now (T.rules ledger.old.header (paid ledger.old.entries transaction.now) transaction.now)) name ledger.new) }
     ensures err { OnErr result (ledger.new ≡ ledger.old) }
 {
     let overlay = charge(alloc, ledger, transaction)?;
-    let (overlay, name) = match rules.perform(alloc, ledger, overlay, transaction)? {
-        Done::Kept(overlay) => (overlay, ResultName::Success),
-        Done::Failed(name) => (charge(alloc, ledger, transaction)?, name),
-    };
-    ledger.commit(overlay, 0, transaction.fee)?;
-    Ok(name)
+    match rules.perform(alloc, ledger, overlay, transaction)? {
+        Done::Kept(overlay) => {
+            ledger.commit(overlay, 0, transaction.fee)?;
+            Ok(ResultName::Success)
+        }
+        Done::Failed(name) => {
+            let paid = charge(alloc, ledger, transaction)?;
+            ledger.commit(paid, 0, transaction.fee)?;
+            Ok(name)
+        }
+    }
 }
 
 // A transaction that was read.
@@ -133,6 +145,7 @@ fn apply_read<T: Transactor>(
     transaction: &Transaction,
 ) -> Result<Report, NoMemory>
     requires sequence { transaction.now.sequence < 4294967295 }
+    requires bytes { IsOfItsBytes transaction.now }
     ensures ok { IfOk result (λ report. Reports (applied T.rules world.old.ledger verdict (Reading.Transaction transaction.now)) world.old world.new report) }
     ensures err { OnErr result (world.new ≡ world.old) }
 {
@@ -152,6 +165,7 @@ fn apply_reading<T: Transactor>(
     reading: &Reading,
 ) -> Result<Report, NoMemory>
     requires sequence { IsCountable reading.now }
+    requires bytes { IsOfBytes reading.now }
     ensures ok { IfOk result (λ report. Reports (applied T.rules world.old.ledger verdict reading.now) world.old world.new report) }
     ensures err { OnErr result (world.new ≡ world.old) }
     ensures refused { (reading.now ≡ Reading.TooLong) → IsOk result }

@@ -1,14 +1,18 @@
 //! A ledger under change, and the total that its accounts were opened with.
-ghost use Rattle.std.specs.Prelude.{◌≡◌, ◌+◌, ◌<◌, ◌≤◌, ◌↔◌, ℕ, None, Err, IfOk, IsSome, OnErr, OnOk};
-ghost use Rattle.hk_ledger.specs.Balances.{balances};
-ghost use Rattle.hk_ledger.specs.Holdings.{holding_at};
+ghost use Rattle.std.specs.Prelude.{◌≡◌, ◌+◌, ◌<◌, ◌≤◌, ◌^◌, ◌↔◌, ℕ, None, Err, IfOk, IsSome, OnErr, OnOk};
+ghost use Rattle.hk_base.specs.declared.ids.AccountId.{AccountId};
+ghost use Rattle.hk_state.specs.Balances.{balances};
+ghost use Rattle.hk_state.specs.Holdings.{holding_at};
+ghost use Rattle.hk_state.specs.Ledger.{with_header};
+ghost use Rattle.hk_state.specs.Reserves.{reserve};
 ghost use Rattle.hk_ledger.specs.Machine.{final_lines};
 ghost use Rattle.hk_ledger.specs.Replays.{AddsUp};
-ghost use Rattle.hk_ledger.specs.World.{new_world, opened, with_header, most_drops};
+ghost use Rattle.hk_ledger.specs.World.{new_world, opened, with_account, most_drops};
 
-use crate::{Header, Holding, Ledger};
+use crate::lines::account_lines;
 use hk_base::{AccountId, Hash256, Items, NoMemory};
 use hk_lines::OutputLine;
+use hk_state::{Header, Holding, Ledger, Overlay};
 use std::alloc::Global;
 use std::marker::Model;
 use thiserror::Error;
@@ -34,6 +38,7 @@ pub enum OpenFault {
 pub struct World {
     pub(crate) ledger: Ledger,
     opening: u64,
+    alloc: Global,
 }
 
 impl Model for World {
@@ -56,6 +61,7 @@ impl World {
         World {
             ledger: Ledger::new(alloc),
             opening: 0,
+            alloc,
         }
     }
 
@@ -63,6 +69,7 @@ impl World {
         ensures ledger { result.now ≡ self.now.ledger }
         ensures conserved { balances self.now.ledger.entries + self.now.ledger.burnt ≡ self.now.opening }
         ensures most { self.now.opening ≤ most_drops }
+        ensures reserves { (id : AccountId) → reserve self.now.ledger.entries id ≤ most_drops }
     {
         &self.ledger
     }
@@ -72,7 +79,7 @@ impl World {
         ensures lines { IfOk result (λ lines. lines ≡ final_lines self.now.ledger) }
         ensures total { IfOk result (λ lines. AddsUp self.now.opening lines) }
     {
-        let mut lines = self.ledger.account_lines(alloc)?;
+        let mut lines = account_lines(alloc, &self.ledger)?;
         let burnt = self.ledger.burnt();
         lines.push(OutputLine::FinalTotal {
             balances: self.opening - burnt,
@@ -105,13 +112,35 @@ pub fn open_account(
     if opening > MOST_DROPS {
         return Err(OpenFault::Total);
     }
-    match world.ledger.open(id, Holding { balance, sequence }) {
+    match open(
+        world.alloc,
+        &mut world.ledger,
+        id,
+        Holding { balance, sequence },
+    ) {
         Ok(()) => {
             world.opening = opening;
             Ok(())
         }
         Err(_) => Err(OpenFault::NoMemory),
     }
+}
+
+// Sets an account's balance and sequence. A refused call changes nothing.
+fn open(
+    alloc: Global,
+    ledger: &mut Ledger,
+    id: &AccountId,
+    holding: Holding,
+) -> Result<(), NoMemory>
+    requires next { ledger.old.next < 2 ^ 64 }
+    requires burnt { ledger.old.burnt < 2 ^ 64 }
+    ensures ok { OnOk result (ledger.new ≡ with_account ledger.old id.now holding.balance holding.sequence) }
+    ensures err { OnErr result (ledger.new ≡ ledger.old) }
+{
+    let mut overlay = Overlay::new(alloc);
+    overlay.put_holding(id, holding)?;
+    ledger.commit(overlay, 0, 0)
 }
 
 /// Opens a ledger: sets the header, and changes nothing else. It takes no memory.

@@ -7,7 +7,7 @@ use Rattle.hk_state.specs.declared.entry.Holding.{Holding}
 use Rattle.hk_state.specs.Entries.{Entries}
 use Rattle.hk_state.specs.Holdings.{holding_at}
 use Rattle.hk_state.specs.Balances.{balances, held_most}
-use Rattle.hk_state.specs.Rows.{first_row}
+use Rattle.hk_base.specs.Rows.{first_row}
 use Rattle.hk_state.specs.Native.{payment_rows, drops_of}
 use Rattle.hk_state.specs.NativeLaws.{payable}
 

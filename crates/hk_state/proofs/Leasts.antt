@@ -19,6 +19,7 @@ use Rattle.hk_state.specs.Least.{IsLeast, LeastOf, Least}
 use Rattle.hk_state.specs.contracts.key.KeyOrd.TheImpl.{cmp-value}
 use Rattle.hk_state.proofs.Kept.{derived}
 use Rattle.hk_state.specs.LeastWrites.{unless_changed, put_of, lesser, with_put}
+use Rattle.hk_state.specs.Sums.{less}
 
 abbrev pub below : {X : Type 0} → Key → List (Key × X) → Bool
 below k [] = true
@@ -35,11 +36,6 @@ second false b h = absurd h
 both : (a b : Bool) → T a → T b → T (a && b)
 both true b p q = q
 both false b p q = absurd p
-
-pub less : (order : Ordering) → T (is_lt order) → order ≡ Less
-less Less h = refl
-less Equal h = absurd h
-less Greater h = absurd h
 
 -- a key below all others isn't among them
 pub none_below : {X : Type 0} (q k : Key) (es : List (Key × X)) → key_cmp q k ≡ Less → T (below k es) →

@@ -10,7 +10,7 @@ use Rattle.std.proofs.lemmas.Map.Text.{is_eq-slice_cmp}
 use Rattle.hk_state.specs.declared.key.Key.{Key}
 use Rattle.hk_state.specs.declared.key.Key.TheVariants.{Account, Install, Definition, State, Emitted, Other}
 use Rattle.hk_state.specs.declared.entry.Entry.{Entry}
-use Rattle.hk_state.specs.Keys.{key_cmp, bytes_cmp, keys_total}
+use Rattle.hk_state.specs.Keys.{key_cmp, bytes_cmp, keys_total, order_at}
 use Rattle.hk_state.specs.Entries.{Entries}
 use Rattle.hk_state.specs.Least.{is_from}
 use Rattle.hk_state.specs.Reserves.{are_beside, is_own, own_units, units_in}
@@ -35,18 +35,13 @@ past Less other x y turned not le lt = let differ : Greater ≡ Less = ap (λ o.
 past Equal other x y turned not le lt = cc
 past Greater other x y turned not le lt = cc
 
-tied : (order : Ordering) → is_eq order ≡ true → order ≡ Equal
-tied Less h = cc
-tied Equal h = refl
-tied Greater h = cc
-
 -- after a key that isn't of a's, and that isn't below a's, comes none of a's
 none_of : (a d b : List ℕ) (x y : Ordering) → bytes_eq a d ≡ false → is_le (ordering_then (bytes_cmp a d) x) ≡ true →
     ordering_then (bytes_cmp d b) y ≡ Less → bytes_eq a b ≡ false
 none_of a d b x y not le lt =
     elim (bytes_eq a b) as (λ c. bytes_eq a b ≡ c → c ≡ false) [
       | true ↦ λ same.
-          let tie = tied (bytes_cmp a b) (is_eq-slice_cmp a b ∙ same) in
+          let tie = order_at (bytes_cmp a b) (is_eq-slice_cmp a b ∙ same) in
           let turned : bytes_cmp d b ≡ ordering_reverse (bytes_cmp a d) = turned_bytes d b ∙ ap ordering_reverse (sym (keys_total.congr (Other a) (Other b) (Other d) tie)) in
           absurd (past (bytes_cmp a d) (bytes_cmp d b) x y turned (is_eq-slice_cmp a d ∙ not) le lt)
       | false ↦ λ differ. refl

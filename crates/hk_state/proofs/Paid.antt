@@ -12,7 +12,7 @@ use Rattle.hk_state.specs.Entries.{Entries}
 use Rattle.hk_state.specs.Holdings.{holding_at, with_holding}
 use Rattle.hk_state.specs.Native.{payment, payment_rows, unless, credited, debited, received, drops_of}
 use Rattle.hk_state.specs.Reserves.{reserve}
-use Rattle.hk_state.specs.Rows.{first_row}
+use Rattle.hk_base.specs.Rows.{first_row}
 use Rattle.hk_state.specs.Rules.{Means, state_keys}
 use Rattle.hk_state.specs.Writes.{Writes, with_writes, written}
 use Rattle.hk_state.proofs.Listed.{account_noted}

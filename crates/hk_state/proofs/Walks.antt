@@ -9,7 +9,8 @@ use Rattle.hk_state.specs.declared.entry.Entry.{Entry}
 use Rattle.hk_state.specs.Keys.{key_cmp, is_key, keys_total, itself, exact}
 use Rattle.hk_state.specs.Entries.{Entries}
 use Rattle.hk_state.specs.Least.{LeastOf, Least, is_from, is_after}
-use Rattle.hk_state.proofs.Leasts.{none_below, first, second, less, below, at_less}
+use Rattle.hk_state.proofs.Leasts.{none_below, first, second, below, at_less}
+use Rattle.hk_state.specs.Sums.{less}
 
 -- the entries whose keys pass
 abbrev pub passing : (Key → Bool) → List (Key × Entry) → List (Key × Entry)

@@ -100,7 +100,7 @@ exact_keys a b tie =
     ∙ ap unspell (slice_cmp-IsAntisymmetric (slice_cmp-IsAntisymmetric nat_cmp-IsAntisymmetric) (spell a) (spell b) (sym (by_spelling a b) ∙ tie))
     ∙ unspelled b
 
-order_at : (order : Ordering) → is_eq order ≡ true → order ≡ Equal
+pub order_at : (order : Ordering) → is_eq order ≡ true → order ≡ Equal
 order_at Less h = cc
 order_at Equal h = refl
 order_at Greater h = cc

@@ -12,7 +12,7 @@ use Rattle.hk_state.specs.declared.ledger.Header.{Header}
 use Rattle.hk_state.specs.declared.entry.Holding.{Holding}
 use Rattle.hk_state.specs.Entries.{Entries}
 use Rattle.hk_state.specs.Holdings.{holding_at, with_holding}
-use Rattle.hk_state.specs.Rows.{first_row}
+use Rattle.hk_base.specs.Rows.{first_row}
 use Rattle.hk_state.specs.Reserves.{base_reserve, reserve}
 use Rattle.hk_state.specs.Rules.{Rules, Effect, keeps, fails}
 

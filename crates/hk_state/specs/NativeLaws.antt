@@ -16,7 +16,8 @@ use Rattle.hk_state.specs.Keys.{is_key}
 use Rattle.hk_state.specs.Entries.{Entries}
 use Rattle.hk_state.specs.Holdings.{as_holding, holding_at, get-with_holding, stays}
 use Rattle.hk_state.specs.Balances.{balances, sum_with, sum_new}
-use Rattle.hk_state.specs.Rows.{first_row, none_applies}
+use Rattle.hk_base.specs.Rows.{first_row}
+use Rattle.hk_state.specs.Rows.{none_applies}
 use Rattle.hk_state.specs.Rules.{keeps, fails, KeepsSum, KeepsOthers, KeepsAccounts, NamesFailures, is_failure}
 use Rattle.hk_state.specs.Reserves.{reserve, may_change}
 use Rattle.hk_state.specs.Native.{native, payment, payment_kind, payment_rows, unless, credited, debited, drops_of}
@@ -101,7 +102,8 @@ native_accounts header m n t id e is =
       | false ↦ λ same. subst (λ p. IsSome (holding_at p id)) (kept same) is
     ] e
 
-other_key : (q : Key) (id : AccountId) → may_change q ≡ false → is_key q (key.Account id) ≡ false
+-- a key that rules for transactions don't change is no account's
+pub other_key : (q : Key) (id : AccountId) → may_change q ≡ false → is_key q (key.Account id) ≡ false
 other_key (key.Account owner) id h = cc
 other_key (key.Other bytes) id h = cc
 other_key (key.Install owner position) id h = refl

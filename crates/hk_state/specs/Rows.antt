@@ -1,11 +1,8 @@
--- Tables of answers, of which the first row that applies decides. This project's own.
-use Rattle.std.specs.Prelude.{◌≡◌, Bool, true, false, cond, if◌then◌else◌, List, [], ◌∷◌, Option, Some, None, refl}
+-- Tables of answers of which no row applies. This project's own.
+use Rattle.std.specs.Prelude.{◌≡◌, Bool, true, false, cond, List, [], ◌∷◌, Some, None, refl}
+use Rattle.hk_base.specs.Rows.{first_row}
 
 module _ {R : Type 0} where
-  abbrev pub first_row : List (Bool × R) → Option R
-  first_row [] = None
-  first_row (row ∷ rows) = if row.0 then Some row.1 else first_row rows
-
   abbrev pub NoneApplies : List (Bool × R) → Type 0
   NoneApplies [] = Unit {0}
   NoneApplies (row ∷ rows) = (row.0 ≡ false) × NoneApplies rows

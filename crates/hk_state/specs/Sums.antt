@@ -41,7 +41,7 @@ second : (a b : Bool) → T (a && b) → T b
 second true b h = h
 second false b h = absurd h
 
-less : (order : Ordering) → T (is_lt order) → order ≡ Less
+pub less : (order : Ordering) → T (is_lt order) → order ≡ Less
 less Less h = refl
 less Equal h = absurd h
 less Greater h = absurd h

@@ -6,7 +6,7 @@ ghost use Rattle.hk_base.specs.declared.ids.AccountId.{AccountId};
 ghost use Rattle.hk_state.specs.Native.{native, payment, payment_rows, drops_of, received};
 ghost use Rattle.hk_state.specs.NativeLaws.{native_sum, native_others, native_accounts, native_failures};
 ghost use Rattle.hk_state.specs.Reserves.{reserve};
-ghost use Rattle.hk_state.specs.Rows.{first_row};
+ghost use Rattle.hk_base.specs.Rows.{first_row};
 ghost use Rattle.hk_state.specs.Rules.{Means};
 ghost use Rattle.hk_state.specs.Writes.{with_writes};
 

@@ -8,7 +8,7 @@ use Rattle.hk_ledger.proofs.transactions.apply_read.Goals as goal
 pub invariant_of-world-2 : goal.invariant_of-world-2
 invariant_of-world-2 g c =
     settled_whole g.T.Transactor.rules c.world.inside.ledger c.settle.new.ledger c.world.inside.opening c.args.verdict c.args.transaction.now c.in_ok-name.name
-    g.met.T.Transactor.keeps_sum (sym c.refusal.ensures.rows ∙ c.in_default.is) c.world.invariant c.in_ok-name.ensures.ok
+    g.met.T.Transactor.keeps_sum g.met.T.Transactor.keeps_others (sym c.refusal.ensures.rows ∙ c.in_default.is) c.world.invariant c.in_ok-name.ensures.ok
 
 pub returns-clause-ok : goal.returns-clause-ok
 returns-clause-ok g c =

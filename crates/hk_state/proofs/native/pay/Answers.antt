@@ -1,7 +1,7 @@
 use Rattle.std.proofs.Common.{◌∙◌, sym}
 use Rattle.hk_state.specs.Writes.{with_writes}
 use Rattle.hk_state.specs.Native.{payment_rows, received}
-use Rattle.hk_state.specs.Rows.{first_row}
+use Rattle.hk_base.specs.Rows.{first_row}
 use Rattle.hk_state.proofs.Fits.{receiver_fits}
 use Rattle.hk_state.proofs.Paid.{paid}
 use Rattle.hk_state.proofs.native.pay.Goals as goal
