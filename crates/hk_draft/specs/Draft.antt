@@ -46,7 +46,11 @@ erased q d = record { entries = remove d.entries (as_key q); written = noted q d
 
 abbrev pub put_state : StateKey → List ℕ → Draft → Draft
 put_state q bytes d =
-    record { entries = insert d.entries (as_key q) (entry.State bytes); written = noted q d.written; emissions = d.emissions }
+    record {
+      entries = insert d.entries (as_key q) (entry.State bytes);
+      written = noted q d.written;
+      emissions = d.emissions;
+    }
 
 -- what bytes make of a State entry: no bytes remove it
 abbrev pub change_to : List ℕ → Option Entry

@@ -14,7 +14,8 @@ pub data ChainEnd : Type 0 where
   kept : Draft → List OutputLine → ChainEnd
   rejected : List OutputLine → ChainEnd
 
-pub record Chained (reads : List ℕ → Reading) (seq : ℕ) (before : Entries) (a b : Draft) (records : List OutputLine) : Type 0 where
+pub record Chained (reads : List ℕ → Reading) (seq : ℕ) (before : Entries) (a b : Draft) (records : List OutputLine) :
+    Type 0 where
   pub extends : Extends reads seq (IsWriter before (HookRan records)) a b
   pub others : KeepsOthers a.entries b.entries
   pub hooks : Each IsHook records
@@ -29,7 +30,8 @@ IsOneCallback [] = Unit {0}
 IsOneCallback (line ∷ []) = IsCallback line
 IsOneCallback (line ∷ next ∷ lines) = ⊥
 
-pub record CalledBack (reads : List ℕ → Reading) (seq : ℕ) (before : Entries) (a b : Draft) (records : List OutputLine) : Type 0 where
+pub record CalledBack (reads : List ℕ → Reading) (seq : ℕ) (before : Entries) (a b : Draft) (records : List OutputLine) :
+    Type 0 where
   pub extends : Extends reads seq (IsWriter before (CallbackRan records)) a b
   pub others : KeepsOthers a.entries b.entries
   pub one : IsOneCallback records

@@ -33,11 +33,13 @@ WritesSo = (m : Entries) (w : Writes) (es : List Emission) (q : StateKey) (bytes
 -- what is accepted as an emission may wait in the queue
 abbrev pub AcceptedEmits : Type 0
 AcceptedEmits = (blob : List ℕ) (context : EmitContext) (nonces : List Hash256) (e : Emission) →
-    1 ≤ context.generation → context.generation < 2 ^ 32 → accepted blob context nonces ≡ Some e → Emits reads_emitted context.seq e
+    1 ≤ context.generation → context.generation < 2 ^ 32 → accepted blob context nonces ≡ Some e →
+    Emits reads_emitted context.seq e
 
 -- under the grounds of one hook a draft goes on from itself, two steps are one, and it goes on by a write that the
 -- grounds allow and by an emission
-pub record GoesOn (reads : List ℕ → Reading) (seq : ℕ) (m : Entries) (hash : Hash256) (account : AccountId) : Type 0 where
+pub record GoesOn (reads : List ℕ → Reading) (seq : ℕ) (m : Entries) (hash : Hash256) (account : AccountId) :
+    Type 0 where
   pub itself : (a : Draft) → Extends reads seq (MayWriteBy m hash account) a a
   pub further : (a b c : Draft) → Extends reads seq (MayWriteBy m hash account) a b →
       Extends reads seq (MayWriteBy m hash account) b c → Extends reads seq (MayWriteBy m hash account) a c

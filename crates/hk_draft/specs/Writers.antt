@@ -67,7 +67,8 @@ IsHookOf account position (printed.Hook by at (Accepted code text) count bound) 
 IsHookOf account position other = ⊥
 
 abbrev pub IsCallbackOf : AccountId → ℕ → OutputLine → Type 0
-IsCallbackOf account position (printed.Callback by at (Accepted code text) count bound) = (by ≡ account) × (at ≡ position)
+IsCallbackOf account position (printed.Callback by at (Accepted code text) count bound) =
+    (by ≡ account) × (at ≡ position)
 IsCallbackOf account position other = ⊥
 
 -- by the lines, a hook at that position ran and accepted; and so for a callback
