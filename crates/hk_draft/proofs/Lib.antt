@@ -1,0 +1,4 @@
+pub mod Extended
+pub mod Granted
+pub mod Drafting
+pub mod Waiting
