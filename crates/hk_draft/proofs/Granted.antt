@@ -18,7 +18,8 @@ use Rattle.hk_state.specs.Entries.{Entries}
 use Rattle.hk_state.specs.Grants.{is_for, is_granted, has_grant, may_write}
 use Rattle.hk_state.specs.Reserves.{first_install, is_own, are_beside}
 use Rattle.hk_state.specs.Least.{is_from}
-use Rattle.hk_state.proofs.Leasts.{below, first, second, less}
+use Rattle.hk_state.specs.Sums.{less}
+use Rattle.hk_state.proofs.Leasts.{below, first, second}
 use Rattle.hk_draft.specs.Lists.{SomeOf}
 use Rattle.hk_draft.specs.Writers.{Grants, IsGranted, MayWrite}
 
