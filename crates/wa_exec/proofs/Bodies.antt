@@ -18,7 +18,34 @@ use Rattle.wa_ops.specs.declared.modules.Code.{Code}
 use Rattle.wa_ops.specs.declared.modules.Module.{Module}
 use Rattle.wa_ops.specs.declared.modules.ModuleExport.{ModuleExport}
 
--- the function with this number has this code, of this bound
+-- the function with this number has this body, of this bound
+pub record HasTree (version : ℕ) (m : Module) (func n : ℕ) : Type 0 where
+  pub code : Code
+  pub tree : Sequence
+  pub at : slice_get m.codes func ≡ Some code
+  pub parsed : tree_of code.ops ≡ Some tree
+  pub body : body_of m func ≡ Some tree
+  pub bounded : bound_at version tree ≡ n
+
+has_tree : (version : ℕ) (m : Module) (func n : ℕ) → bound_of version m func ≡ Some n → HasTree version m func n
+has_tree version m func n e = at_code (slice_get m.codes func) refl e
+  where
+    at_tree : (code : Code) → slice_get m.codes func ≡ Some code → (o : Option Sequence) → tree_of code.ops ≡ o → option_map (bound_at version) o ≡ Some n → HasTree version m func n
+    at_tree code g None h f = absurd (cc f)
+    at_tree code g (Some tree) h f = record {
+      code = code;
+      tree = tree;
+      at = g;
+      parsed = h;
+      body = ap (λ c. and_then c (λ x. tree_of x.ops)) g ∙ h;
+      bounded = cc f;
+    }
+
+    at_code : (o : Option Code) → slice_get m.codes func ≡ o → option_map (bound_at version) (and_then o (λ c. tree_of c.ops)) ≡ Some n → HasTree version m func n
+    at_code None g f = absurd (cc f)
+    at_code (Some code) g f = at_tree code g (tree_of code.ops) refl f
+
+-- and in a decoded module this code
 pub record HasBody (version : ℕ) (m : Module) (func n : ℕ) : Type 0 where
   pub code : Code
   pub tree : Sequence
@@ -34,27 +61,28 @@ each_got P (y ∷ xs) zero x e each = let same : y ≡ x = cc e in subst P same 
 each_got P (y ∷ xs) (suc i) x e each = each_got P xs i x e each.1
 
 has_body : (version : ℕ) (m : Module) (func n : ℕ) → IsSound m → bound_of version m func ≡ Some n → HasBody version m func n
-has_body version m func n sound e = at_code (slice_get m.codes func) refl e
-  where
-    at_tree : (code : Code) → slice_get m.codes func ≡ Some code → (o : Option Sequence) → tree_of code.ops ≡ o → option_map (bound_at version) o ≡ Some n → HasBody version m func n
-    at_tree code g None h f = absurd (cc f)
-    at_tree code g (Some tree) h f = record {
-      code = code;
-      tree = tree;
-      at = g;
-      reads = (tree_reads code.ops tree).1 h;
-      body = ap (λ c. and_then c (λ x. tree_of x.ops)) g ∙ h;
-      sound = each_got IsSoundBody m.codes func code g sound.codes.each;
-      bounded = cc f;
+has_body version m func n sound e =
+    let t : HasTree version m func n = has_tree version m func n e in
+    record {
+      code = t.code;
+      tree = t.tree;
+      at = t.at;
+      reads = (tree_reads t.code.ops t.tree).1 t.parsed;
+      body = t.body;
+      sound = each_got IsSoundBody m.codes func t.code t.at sound.codes.each;
+      bounded = t.bounded;
     }
 
-    at_code : (o : Option Code) → slice_get m.codes func ≡ o → option_map (bound_at version) (and_then o (λ c. tree_of c.ops)) ≡ Some n → HasBody version m func n
-    at_code None g f = absurd (cc f)
-    at_code (Some code) g f = at_tree code g (tree_of code.ops) refl f
-
 -- the exported function's bound is the export's
+pub function_bound : (version : ℕ) (m : Module) (is_named : ModuleExport → Bool) (func n : ℕ) → entry_of (length (calls_of m.imports)) is_named m.exports ≡ Some func
+    → export_bound version is_named m ≡ Some n → bound_of version m func ≡ Some n
+function_bound version m is_named func n entry e = ap (λ o. and_then o (bound_of version m)) (sym entry) ∙ e
+
+pub export_tree : (version : ℕ) (m : Module) (is_named : ModuleExport → Bool) (func n : ℕ) → entry_of (length (calls_of m.imports)) is_named m.exports ≡ Some func → export_bound version is_named m ≡ Some n → HasTree version m func n
+export_tree version m is_named func n entry e = has_tree version m func n (function_bound version m is_named func n entry e)
+
 pub export_body : (version : ℕ) (m : Module) (is_named : ModuleExport → Bool) (func n : ℕ) → IsSound m → entry_of (length (calls_of m.imports)) is_named m.exports ≡ Some func → export_bound version is_named m ≡ Some n → HasBody version m func n
-export_body version m is_named func n sound entry e = has_body version m func n sound (ap (λ o. and_then o (bound_of version m)) (sym entry) ∙ e)
+export_body version m is_named func n sound entry e = has_body version m func n sound (function_bound version m is_named func n entry e)
 
 -- an export that has a bound has a function
 pub record IsExported (m : Module) (is_named : ModuleExport → Bool) : Type 0 where

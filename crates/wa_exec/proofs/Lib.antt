@@ -4,3 +4,4 @@ pub mod Bodies
 pub mod Ready
 pub mod Making
 pub mod OneEnding
+pub mod CodeRuns

@@ -4,12 +4,12 @@ use Rattle.std.specs.Prelude.{slice_get, map}
 use Rattle.std.specs.Option.{option_map_or}
 use Rattle.hk_base.specs.declared.outcome.Outcome.{Outcome}
 use Rattle.hk_bound.specs.Bounds.{export_bound}
-use Rattle.hk_bound.specs.Checks.{Held, IsHeld}
+use Rattle.hk_bound.specs.Checks.{AllTyped, Held, IsHeld}
 use Rattle.hk_bound.specs.Entries.{IsEntry}
 use Rattle.hk_bound.specs.Laws.{IsEntryType}
 use Rattle.hk_bound.specs.declared.fault.Export.{Export}
 use Rattle.hk_bound.proofs.Guarding.{ruled_guarded}
-use Rattle.wa_exec.proofs.Bodies.{HasBody, IsExported, export_body, exported, bound_small, finest}
+use Rattle.wa_exec.proofs.Bodies.{HasBody, HasTree, IsExported, export_body, export_tree, exported, bound_small, finest}
 use Rattle.wa_exec.proofs.Entries.{entry_typed, entry_held, calls_are, are_rows}
 use Rattle.wa_exec.proofs.Typing.{locals_typed, zero_words, zeros_fit, globals_typed, global_words, globals_fit}
 use Rattle.wa_exec.specs.Made.{Made, IsMade}
@@ -55,22 +55,21 @@ globals_kept m kept = globals_typed m.globals (rules_by_name m kept).float_globa
 
 -- ---- the law of the bound
 
-pub within : {S : Type 0} (held : Held) (which : Export) (meaning : HostMeaning S) (argument : ℕ) (before : S) (version func n : ℕ) → WithinBound S → IsHeld held
-    → entry_of (length (calls_of held.wasm.imports)) (named which) held.wasm.exports ≡ Some func → (b : HasBody version held.wasm func n)
-    → EndsWithin (world_at meaning held.wasm func) (bound_at 1 b.tree) (start_at meaning held.wasm func b.tree argument before)
-within held which meaning argument before version func n law h entry b =
-    let m : Module = held.wasm in
-    let kept : IsRuled m = h.holds.hook.ruled in
+pub within : {S : Type 0} (m : Module) (which : Export) (meaning : HostMeaning S) (argument : ℕ) (before : S) (version func n : ℕ) → WithinBound S → IsRuled m → AllTyped m
+    → entry_of (length (calls_of m.imports)) (named which) m.exports ≡ Some func → (b : HasTree version m func n)
+    → EndsWithin (world_at meaning m func) (bound_at 1 b.tree) (start_at meaning m func b.tree argument before)
+within m which meaning argument before version func n law kept typed entry b =
     let t : IsEntryType m func = entry_typed m which func kept entry in
     law (world_at meaning m func) b.tree (locals_at m func argument) (globals_at m.globals) (memory_at m) before
-    (first_typed m func argument b.code kept b.at t) (globals_kept m kept) t.result (h.holds.hook.typed func b.tree b.body)
+    (first_typed m func argument b.code kept b.at t) (globals_kept m kept) t.result (typed func b.tree b.body)
     (ruled_guarded m func b.tree kept b.body)
 
-pub runs_within : (S : Type 0) → WithinBound S → (held : Held) → IsHeld held → (which : Export) → RunsWithin S held.wasm (named which)
-runs_within S law held h which version meaning argument before n known e =
-    let x : IsExported held.wasm (named which) = exported version held.wasm (named which) n e in
-    let b : HasBody version held.wasm x.function n = export_body version held.wasm (named which) x.function n h.holds.sound x.entry e in
-    let w = within held which meaning argument before version x.function n law h x.entry b in
+-- of a module that is ruled and typed
+pub module_runs : (S : Type 0) → WithinBound S → (m : Module) → IsRuled m → AllTyped m → (which : Export) → RunsWithin S m (named which)
+module_runs S law m kept typed which version meaning argument before n known e =
+    let x : IsExported m (named which) = exported version m (named which) n e in
+    let b : HasTree version m x.function n = export_tree version m (named which) x.function n x.entry e in
+    let w = within m which meaning argument before version x.function n law kept typed x.entry b in
     record {
       outcome = w.outcome;
       count = w.steps;
@@ -78,6 +77,9 @@ runs_within S law held h which version meaning argument before n known e =
       run = record { function = x.function; code = b.tree; last = w.last; entry = x.entry; body = b.body; ends = w.ends; host = refl };
       within = omega (arith, w.within, finest version b.tree known, b.bounded);
     }
+
+pub runs_within : (S : Type 0) → WithinBound S → (held : Held) → IsHeld held → (which : Export) → RunsWithin S held.wasm (named which)
+runs_within S law held h which = module_runs S law held.wasm h.holds.hook.ruled h.holds.hook.typed which
 
 -- ---- an instance
 

@@ -7,5 +7,5 @@ mod starting;
 
 pub use hk_bound::Export;
 pub use instance::Instance;
-pub use laws::{one_ending, runs_within};
+pub use laws::{code_run_ends, code_run_is, codes_run, one_ending, runs_within};
 pub use wa_run::Ended;
