@@ -1,5 +1,7 @@
 -- What the rules say of imports and exports.
 use Rattle.std.proofs.Common.{ℕ, ◌≡◌, ◌+◌, ◌-◌, ◌<◌, ◌≤◌, ◌==◌, ◌&&◌, ◌||◌, inl, inr, suc, zero, List, [], ◌∷◌, ◌∙◌, not, Bool, true, false, Option, Some, None, refl, sym, ap, ap₂, subst, length, reverse, arith}
+use Rattle.std.proofs.lemmas.Bool.{or_right as or_true_right}
+use Rattle.std.proofs.lemmas.Bool.{or_left as or_true_left}
 use Rattle.std.specs.Prelude.{slice_get, find, if◌then◌else◌, option_map, codes, nat_le}
 use Rattle.std.specs.List.{list_any}
 use Rattle.std.specs.Option.{option_map_or}
@@ -140,14 +142,6 @@ entry_fine imported m x named fine =
     let is : is_entry imported m x ≡ true = not_false (is_entry imported m x) (ap (λ b. if b then not (is_entry imported m x) else x.kind == 0) (sym named) ∙ arms) in
     entry_by m (x.index - imported) (and_right (nat_le imported x.index) (option_map_or (is_function_type (I32 ∷ []) I64) (function_type m (x.index - imported)) false)
     (and_right (x.kind == 0) (nat_le imported x.index && option_map_or (is_function_type (I32 ∷ []) I64) (function_type m (x.index - imported)) false) is))
-
-or_true_left : (a b : Bool) → a ≡ true → (a || b) ≡ true
-or_true_left true b e = refl
-or_true_left false b e = absurd (cc e)
-
-or_true_right : (a b : Bool) → b ≡ true → (a || b) ≡ true
-or_true_right true b e = refl
-or_true_right false b e = e
 
 no_bad : (m : Module) → IsRuled m → list_any (is_bad_export (length (calls_of m.imports)) m) m.exports ≡ false
 no_bad m kept =

@@ -21,15 +21,9 @@ use Rattle.hk_rules.specs.Sparing.{spared}
 use Rattle.hk_rules.proofs.Looping.{each_at}
 use Rattle.hk_bound.specs.Bounds.{bound_of}
 use Rattle.hk_bound.specs.Weights.{weight, inner_of, savings, whole, spared_by, weighed}
-use Rattle.hk_bound.proofs.Summing.{Stand, stand_left, stand_right, stand_tail, stand_weight, turns_both, all_stand, body_bound, same_number, guards_at, first_dropped, others_dropped}
+use Rattle.hk_bound.proofs.Summing.{Stand, stand_left, stand_right, stand_tail, stand_weight, turns_both, all_stand, body_bound, same_number, spread_region, spread_node, guards_at, first_dropped, others_dropped}
 
 -- ---- over flat code
-
-spread_region : (t a b : ℕ) → t * (2 + a + b) ≡ t + t * a + t + t * b
-spread_region t a b = omega arith
-
-spread_node : (t a : ℕ) → t * (1 + a) ≡ t + t * a
-spread_node t a = omega arith
 
 spread_three : (t a b c : ℕ) → t * (2 + (a + b) + c) ≡ t + t * a + t * b + t + t * c
 spread_three t a b c = omega arith

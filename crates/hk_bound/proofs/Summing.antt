@@ -24,6 +24,7 @@ use Rattle.hk_rules.specs.declared.guards.FunctionGuards.{FunctionGuards}
 use Rattle.hk_rules.specs.Loops.{loop_guard, loop_guards, innermost, body_guards, code_guards}
 use Rattle.hk_rules.specs.Passing.{first_around, others_around}
 use Rattle.hk_bound.specs.Weights.{weight, counted, inner_of, total, last_turns}
+use Rattle.wa_validate.proofs.Judging.{at_op}
 
 -- ---- where the loops of a sequence stand among all loops
 
@@ -64,10 +65,10 @@ stand_weight all count x xs s =
 
 -- ---- sums
 
-spread_region : (t a b : ℕ) → t * (2 + a + b) ≡ t + t * a + t + t * b
+pub spread_region : (t a b : ℕ) → t * (2 + a + b) ≡ t + t * a + t + t * b
 spread_region t a b = omega arith
 
-spread_node : (t a : ℕ) → t * (1 + a) ≡ t + t * a
+pub spread_node : (t a : ℕ) → t * (1 + a) ≡ t + t * a
 spread_node t a = omega arith
 
 pub turns_both : (xs ys : List LoopCost) → turns (xs ++ ys) ≡ turns xs + turns ys
@@ -189,9 +190,6 @@ body_bound ops body reads =
     )
 
 -- ---- the loop over the instructions
-
-pub at_op : (ops : List Op) (i : ℕ) (op : Op) → i < length ops → op ≡ get_or ops i op → drop i ops ≡ op ∷ drop (i + 1) ops
-at_op ops i op h e = drop-cons ops i op h ∙ ap (λ x. x ∷ drop (suc i) ops) (sym e) ∙ ap (λ n. op ∷ drop n ops) (sym (add-one i))
 
 pub first_dropped : (marks : List (Option ℕ)) (i : ℕ) → first_around (drop i marks) ≡ inner_of (slice_get marks i)
 first_dropped [] zero = refl

@@ -1,5 +1,6 @@
 -- Drafts that go on.
 use Rattle.std.proofs.Common.{◌≡◌, ℕ, ◌⊎◌, inl, inr, Bool, true, false, cond, ◌||◌, if◌then◌else◌, List, [], ◌∷◌, ◌++◌, append_assoc, append-nil, refl, sym, ap, subst, ◌∙◌, arith, Option, Some, None}
+use Rattle.std.proofs.lemmas.Bool.{or_left as or_first, or_parts}
 use Rattle.std.specs.List.{list_any}
 use Rattle.std.specs.FinMap.{get}
 use Rattle.std.proofs.lemmas.List.Folds.{list_any-append}
@@ -55,14 +56,6 @@ state_or other k = other
 
 same_key : (p q : StateKey) → is_key (as_key p) (as_key q) ≡ true → p ≡ q
 same_key p q same = ap (state_or p) (exact (as_key p) (as_key q) same)
-
-or_first : (a b : Bool) → a ≡ true → (a || b) ≡ true
-or_first true b h = refl
-or_first false b h = cc
-
-none_second : (a b : Bool) → (a || b) ≡ false → b ≡ false
-none_second true b h = cc
-none_second false b h = h
 
 first_or_second : (a b : Bool) → (a || b) ≡ true → (a ≡ true) ⊎ (b ≡ true)
 first_or_second true b h = inl refl
@@ -133,7 +126,7 @@ module _ (reads : List ℕ → Reading) (seq : ℕ) (G : StateKey → Type 0) wh
     pub extends_change : Extends reads seq G a (record { entries = write a.entries (as_key q) change; written = noted q a.written; emissions = a.emissions })
     extends_change = record {
       unlisted = λ p h. read_at p ∙ ap (λ b. cond b change (get a.entries (as_key p)))
-          (none_second (is_listed p a.written) (is_key (as_key p) (as_key q)) (sym (listed-noted p q a.written) ∙ h));
+          (or_parts (is_listed p a.written) (is_key (as_key p) (as_key q)) (sym (listed-noted p q a.written) ∙ h)).1;
       listed = λ p h. listed-noted p q a.written ∙ or_first (is_listed p a.written) (is_key (as_key p) (as_key q)) h;
       grounds = λ p h. grounds_of p (first_or_second (is_listed p a.written) (is_key (as_key p) (as_key q)) (sym (listed-noted p q a.written) ∙ h));
       held = λ p h. subst HoldsState (sym (read_at p)) (held_at p (is_key (as_key p) (as_key q)) h);

@@ -1,5 +1,6 @@
 -- Which numbers words spell.
 use Rattle.std.proofs.Common.{◌≡◌, ℕ, ◌<◌, ◌≤◌, ◌^◌, ◌&&◌, Bool, true, false, nat_le, if◌then◌else◌, List, Option, Some, None, refl, sym, ap, ◌∙◌, arith}
+use Rattle.std.proofs.lemmas.Bool.{and_parts as both}
 use Rattle.std.proofs.lemmas.Bool.Decides.{nat_tests}
 use Rattle.std.proofs.lemmas.Slice.Eq.{bytes_eq-Decides}
 use Rattle.std.proofs.lemmas.Fmt.{decimal_is_IsNumeral}
@@ -12,11 +13,6 @@ use Rattle.hk_lines.specs.Words.{number_of}
 pub some_if : {A : Type 0} (test : Bool) (value found : A) → (if test then Some value else None) ≡ Some found → (test ≡ true) × (value ≡ found)
 some_if true value found h = (refl, cc h)
 some_if false value found h = cc h
-
--- both of two tests hold
-both : (first second : Bool) → (first && second) ≡ true → (first ≡ true) × (second ≡ true)
-both true second h = (refl, h)
-both false second h = cc h
 
 -- a word that has a number is its decimal, and the number is in the range
 pub number_is : (least most number : ℕ) (word : List ℕ) → number_of least most word ≡ Some number →

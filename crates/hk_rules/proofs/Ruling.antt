@@ -1,5 +1,8 @@
 -- The test of the rules says what the rules say.
 use Rattle.std.proofs.Common.{ℕ, zero, suc, ◌≡◌, ◌+◌, ◌<◌, ◌≤◌, inl, inr, ◌∙◌, List, [], ◌∷◌, Bool, true, false, Option, Some, None, length, refl, sym, ap, subst, arith}
+use Rattle.std.proofs.lemmas.Bool.{or_from as neither}
+use Rattle.std.proofs.lemmas.Bool.{or_right as or_back}
+use Rattle.std.proofs.lemmas.Bool.{or_left as or_front}
 use Rattle.std.specs.Prelude.{◌&&◌, ◌||◌, nat_lt, not, slice_get, sum_by}
 use Rattle.std.specs.Option.{option_map_or}
 use Rattle.std.proofs.lemmas.Bool.{and_from, and_parts, ltb-true}
@@ -14,18 +17,6 @@ use Rattle.wa_ops.specs.HookRules.{AreKept, IsFault, IsFirst, IsNowhere, Precede
 use Rattle.hk_rules.specs.Ruling.{RulesDecided, any_below, breaks, is_ruled, keeps_all, size_of}
 
 -- ---- a test below a number
-
-or_back : (a b : Bool) → b ≡ true → (a || b) ≡ true
-or_back true b e = refl
-or_back false b e = e
-
-or_front : (a b : Bool) → a ≡ true → (a || b) ≡ true
-or_front true b e = refl
-or_front false b e = absurd (cc e)
-
-neither : (a b : Bool) → a ≡ false → b ≡ false → (a || b) ≡ false
-neither true b p q = absurd (cc p)
-neither false b p q = q
 
 or_last : (a b : Bool) → b ≡ false → (a || b) ≡ true → a ≡ true
 or_last true b none e = refl

@@ -1,5 +1,6 @@
 -- Blobs that are kept beside those of the parts.
 use Rattle.std.proofs.Common.{◌≡◌, ◌≢◌, ℕ, ◌<◌, ◌≤◌, ◌==◌, ◌||◌, Bool, true, false, List, [], ◌∷◌, ◌++◌, length, refl, sym, ap, subst, ◌∙◌, arith, Option, Some, None, slice_set, All, IfSome, get_or, length-append}
+use Rattle.std.proofs.lemmas.Bool.{or_parts as neither}
 use Rattle.std.proofs.lemmas.Bool.Decides.{nat_tests}
 use Rattle.std.proofs.lemmas.Grind.{common_steps}
 use Rattle.std.proofs.lemmas.List.{length-set}
@@ -43,10 +44,6 @@ parts_kept blobs other (Some p ∷ parts) all h =
     let first : Keeps blobs other (Some p) = All-head (Keeps blobs other) (Some p) parts all in
     All-cons (λ p. IfSome p (IsPart other)) (Some p) parts (part_kept blobs other p first.0 first.1 (All-head (λ p. IfSome p (IsPart blobs)) (Some p) parts h))
     (parts_kept blobs other parts (All-tail (Keeps blobs other) (Some p) parts all) (All-tail (λ p. IfSome p (IsPart blobs)) (Some p) parts h))
-
-neither : (a b : Bool) → (a || b) ≡ false → (a ≡ false) × (b ≡ false)
-neither true b e = (e, absurd (cc))
-neither false b e = (refl, e)
 
 other_blob : (blobs : List (List ℕ)) (place : ℕ) (blob : List ℕ) (k : ℕ) → k ≢ place → blob_at (slice_set blobs place blob) k ≡ blob_at blobs k
 other_blob blobs place blob k other = unwrap_or-slice_get (slice_set blobs place blob) k [] ∙ let same : get_or (slice_set blobs place blob) k [] ≡ get_or blobs k [] = grind (arith, common_steps) in same ∙ sym (unwrap_or-slice_get blobs k [])

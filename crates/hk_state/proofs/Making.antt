@@ -1,5 +1,9 @@
 -- All writes are made, or none.
 use Rattle.std.proofs.Common.{◌≡◌, ◌∙◌, sym, ap, subst, refl, List, [], ◌∷◌, ◌++◌, Bool, true, false, cond, ◌||◌, Option, Some, None, IsSome, is_some, MatchOption}
+use Rattle.std.proofs.lemmas.Bool.{or_from as neither_of}
+use Rattle.std.proofs.lemmas.Bool.{or_parts as neither}
+use Rattle.std.proofs.lemmas.Bool.{or_right as last_way}
+use Rattle.std.proofs.lemmas.Bool.{or_left as either_way}
 use Rattle.std.specs.List.{list_any}
 use Rattle.std.specs.FinMap.{get, remove, find, from_entries, entries, get-remove, get-entries, get-from_entries, same_map}
 use Rattle.hk_state.specs.declared.key.Key.{Key}
@@ -20,10 +24,6 @@ any_last q k (x ∷ xs) = ap (λ b. is_key q x || b) (any_last q k xs) ∙ regro
     regroup : (a b c : Bool) → (a || (b || c)) ≡ ((a || b) || c)
     regroup true b c = refl
     regroup false b c = refl
-
-neither : (a b : Bool) → (a || b) ≡ false → (a ≡ false) × (b ≡ false)
-neither true b h = cc
-neither false b h = (refl, h)
 
 apart : (q k : Key) (ks : List Key) → list_any (is_key q) (ks ++ k ∷ []) ≡ false →
     (list_any (is_key q) ks ≡ false) × (is_key q k ≡ false)
@@ -54,18 +54,6 @@ adds_more base m n puts ks k put absent others adds =
       fresh = λ q h. one_of (get base q ≡ None) q k ks (adds.fresh q) (λ same. ap (get base) same ∙ new) h;
       among = λ q h. one_of (puts q ≡ true) q k ks (adds.among q) (λ same. ap puts same ∙ put) h;
     }
-
-either_way : (a b : Bool) → a ≡ true → (a || b) ≡ true
-either_way true b h = refl
-either_way false b h = cc
-
-last_way : (a b : Bool) → b ≡ true → (a || b) ≡ true
-last_way true b h = refl
-last_way false b h = h
-
-neither_of : (a b : Bool) → a ≡ false → b ≡ false → (a || b) ≡ false
-neither_of true b h i = cc
-neither_of false b h i = i
 
 -- the last key is taken out
 pub adds_less : (base m : Entries) (puts : Key → Bool) (ks : List Key) (k : Key) → Adds base puts m (ks ++ k ∷ []) →

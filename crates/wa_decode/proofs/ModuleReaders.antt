@@ -1,5 +1,7 @@
 -- Modules are read as they are spelled.
 use Rattle.std.proofs.Common.{◌≡◌, ℕ, zero, suc, ◌≤◌, ◌⊎◌, inl, inr, Bool, true, false, nat_lt, nat_le, ◌==◌, ◌&&◌, if◌then◌else◌, List, [], ◌∷◌, ◌++◌, length, Option, Some, None, MatchOption, Result, Ok, Err, IfOk, take, drop, refl, sym, ap, ap₂, ◌∙◌, subst, arith}
+use Rattle.std.proofs.lemmas.Option.{same_Some as some_is}
+use Rattle.std.proofs.lemmas.Bool.{and_parts as both_true}
 use Rattle.std.proofs.lemmas.Bool.{eq-eqb, eqb-true, ltb-true, lt-ltb, leb-true, le-leb}
 use Rattle.std.proofs.lemmas.Bool.Decides.{nat_tests}
 use Rattle.wa_ops.specs.declared.modules.Module.{Module}
@@ -14,7 +16,7 @@ use lib.Pointwise.{pointwise}
 use Rattle.wa_decode.proofs.ExpressionReaders.{items_long}
 use Rattle.wa_decode.proofs.NumberReaders.{unsigned_reader, bytes_reader, vector_reader, whole_forth, whole_back}
 use Rattle.wa_decode.proofs.PartReaders.{func_type_reader, limits_reader, table_type_reader, import_reader, global_reader, export_reader, element_reader, code_reader, segment_reader, start_reader}
-use Rattle.wa_decode.proofs.Readers.{Reader, bind_some, guard_some, choice_some, some_is, some_both}
+use Rattle.wa_decode.proofs.Readers.{Reader, bind_some, guard_some, choice_some, some_both}
 
 -- ---- sections
 
@@ -63,10 +65,6 @@ sections_back (suc n) (b ∷ bs) ss e =
     subst P p (a.0, f.0.1, a.1, r, a.2)
 
 -- ---- their order
-
-both_true : (a b : Bool) → (a && b) ≡ true → (a ≡ true) × (b ≡ true)
-both_true true b e = (refl, e)
-both_true false b e = absurd cc
 
 highest_forth : (ss : List Section) (last : ℕ) → IsOrdered last ss → (high : ℕ) × (highest_at last ss ≡ Some high)
 unfolding highest_at

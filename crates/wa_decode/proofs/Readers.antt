@@ -23,9 +23,6 @@ pub choice_some : {A : Type 0} (t : Bool) (o p : Option A) (y : A) → (if t the
 choice_some true o p y e = inl (refl, e)
 choice_some false o p y e = inr (refl, e)
 
-pub some_is : {A : Type 0} (x y : A) → Some x ≡ Some y → x ≡ y
-some_is x y e = cc
-
 pub some_both : {A B : Type 0} (x y : A × B) → Some x ≡ Some y → (x.0 ≡ y.0) × (x.1 ≡ y.1)
 some_both x y e = let p : x ≡ y = cc in (ap (λ t. t.0) p, ap (λ t. t.1) p)
 

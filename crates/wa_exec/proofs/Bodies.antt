@@ -17,6 +17,7 @@ use Rattle.wa_ops.specs.Typing.{and_then}
 use Rattle.wa_ops.specs.declared.modules.Code.{Code}
 use Rattle.wa_ops.specs.declared.modules.Module.{Module}
 use Rattle.wa_ops.specs.declared.modules.ModuleExport.{ModuleExport}
+use Rattle.hk_bound.proofs.Refusing.{each_got}
 
 -- the function with this number has this body, of this bound
 pub record HasTree (version : ℕ) (m : Module) (func n : ℕ) : Type 0 where
@@ -54,11 +55,6 @@ pub record HasBody (version : ℕ) (m : Module) (func n : ℕ) : Type 0 where
   pub body : body_of m func ≡ Some tree
   pub sound : IsSoundBody code
   pub bounded : bound_at version tree ≡ n
-
-each_got : {A : Type 0} (P : A → Type 0) (xs : List A) (i : ℕ) (x : A) → slice_get xs i ≡ Some x → Each P xs → P x
-each_got P [] i x e each = absurd (cc e)
-each_got P (y ∷ xs) zero x e each = let same : y ≡ x = cc e in subst P same each.0
-each_got P (y ∷ xs) (suc i) x e each = each_got P xs i x e each.1
 
 has_body : (version : ℕ) (m : Module) (func n : ℕ) → IsSound m → bound_of version m func ≡ Some n → HasBody version m func n
 has_body version m func n sound e =

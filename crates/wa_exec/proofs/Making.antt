@@ -1,5 +1,6 @@
 -- What an instance is made of, and its run.
 use Rattle.std.proofs.Common.{ℕ, ◌≡◌, ◌<◌, ◌≤◌, List, [], ◌∷◌, ◌∙◌, false, Some, refl, sym, ap, subst, length, get_or, arith}
+use Rattle.std.proofs.lemmas.Option.{same_Some as some_is}
 use Rattle.std.specs.Prelude.{slice_get, nat_lt}
 use Rattle.std.specs.List.{list_any}
 use Rattle.std.proofs.lemmas.Bool.{ltb-false, or_parts}
@@ -35,9 +36,6 @@ few_pages held h =
     pages_small held.wasm.memories (or_parts (nat_lt 1 (length held.wasm.memories)) (list_any is_bad_memory held.wasm.memories) (rules_by_name held.wasm h.holds.hook.ruled).memories).1
 
 -- ---- the run
-
-some_is : {A : Type 0} (x y : A) → Some x ≡ Some y → x ≡ y
-some_is x y h = cc h
 
 -- the function that was read is there
 pub entry_within : (held : Held) (which : Export) (argument : ℕ) (made : Made) (m : Module) (codes : List Code) (entry : Entry) → (h : IsHeld held) (i : IsMade held which argument made)

@@ -1,5 +1,6 @@
 -- A run has one ending.
 use Rattle.std.proofs.Common.{◌≡◌, ℕ, zero, suc, Some, sym, ◌∙◌, ap, subst}
+use Rattle.std.proofs.lemmas.Option.{same_Some as some_is}
 use Rattle.hk_base.specs.declared.outcome.Outcome.{Outcome}
 use Rattle.wa_exec.specs.Runs.{OneEnding}
 use Rattle.wa_machine.specs.Machine.{Configuration, World, Step, next, ended, fault, step, EndsAfter, Ends}
@@ -22,9 +23,6 @@ pub one_end : {S : Type 0} (world : World S) (n m : ℕ) (start : Configuration 
 one_end world zero m start o p c d a b = absurd a
 one_end world (suc n) zero start o p c d a b = absurd b
 one_end world (suc n) (suc m) start o p c d a b = one_after world n m o p c d (step world start) (λ e. one_end world n m e o p c d) a b
-
-some_is : {A : Type 0} (x y : A) → Some x ≡ Some y → x ≡ y
-some_is x y e = cc e
 
 pub one_ending : (S : Type 0) → OneEnding S
 one_ending S meaning m is_named argument before o p i j after later a b =

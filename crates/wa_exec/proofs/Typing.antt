@@ -16,18 +16,13 @@ use Rattle.wa_ops.specs.declared.op.ValueType.{ValueType}
 use Rattle.wa_ops.specs.declared.op.ValueType.TheVariants.{I32, I64, F32, F64}
 use Rattle.wa_run.specs.Flat.{words_of, IsValue, AllValues}
 use Rattle.wa_run.specs.Starts.{first_globals, HasWidth}
+use Rattle.wa_run.proofs.Numeric.{value_word}
 
 value_typed : (kind : ValueType) (n : ℕ) → is_float kind ≡ false → type_of (value_of kind n) ≡ kind
 value_typed I32 n e = refl
 value_typed I64 n e = refl
 value_typed F32 n e = absurd (cc e)
 value_typed F64 n e = absurd (cc e)
-
-value_word : (kind : ValueType) (n : ℕ) → word_of (value_of kind n) ≡ n
-value_word I32 n = refl
-value_word I64 n = refl
-value_word F32 n = refl
-value_word F64 n = refl
 
 -- ---- locals
 

@@ -1,5 +1,6 @@
 -- Runs as a relation and as a function.
 use Rattle.std.proofs.Common.{ℕ, zero, suc, ◌≡◌, ◌+◌, ◌≤◌, ◌∙◌, Bool, List, Option, Some, None, length, refl, sym, ap, ap₂, subst, arith}
+use Rattle.std.proofs.lemmas.Option.{same_Some as some_is}
 use Rattle.hk_base.specs.declared.outcome.Outcome.{Outcome}
 use Rattle.wa_ops.specs.Bound.{bound_at}
 use Rattle.wa_ops.specs.Contexts.{calls_of}
@@ -61,9 +62,6 @@ pub record After {S : Type 0} (world : World S) (most : ℕ) (s : Step S) (e : E
   pub within : more ≤ most
   pub ends : EndsAfter s more e.outcome last (λ later. Ends world more later e.outcome last)
   pub is : e ≡ ending_of e.outcome last
-
-some_is : {A : Type 0} (x y : A) → Some x ≡ Some y → x ≡ y
-some_is x y e = cc e
 
 after_step : {S : Type 0} (world : World S) (most : ℕ) (s : Step S) (e : Ending S) → ((later : Configuration S) → run_for world most later ≡ Some e → EndsIn world most later e)
     → or_on s (λ later. run_for world most later) ≡ Some e → After world most s e

@@ -1,5 +1,6 @@
 -- What typing says of operands at run time: where it finds them, the machine finds them.
 use Rattle.std.proofs.Common.{◌≡◌, ℕ, zero, suc, List, [], ◌∷◌, Option, Some, None, Bool, true, false, ◌&&◌, if◌then◌else◌, slice_get, slice_set, sym, ◌∙◌, ap, subst, refl}
+use Rattle.std.proofs.lemmas.Bool.{and_parts as both_true}
 use Rattle.wa_ops.specs.declared.op.ValueType.{ValueType}
 use Rattle.wa_ops.specs.declared.op.ValueType.TheVariants.{I32, I64, F32, F64}
 use Rattle.wa_ops.specs.Typing.{Slot, known, Stack, GlobalType, is_same_type, and_then, pop, pop_all, pop_result, push, push_result, changed, is_empty, is_same_result, carries, all_carry}
@@ -151,10 +152,6 @@ same_result (Some a) None h = absurd cc
 pub carried_is : (result : Option ValueType) (found : Option (Option ValueType)) → carries result found ≡ true → found ≡ Some result
 carried_is result None h = absurd cc
 carried_is result (Some other) h = ap Some (sym (same_result result other h))
-
-pub both_true : (a b : Bool) → (a && b) ≡ true → (a ≡ true) × (b ≡ true)
-both_true true b h = (refl, h)
-both_true false b h = absurd cc
 
 -- each label of a table carries the result
 pub table_carries : (labels : List (Option ValueType)) (listed : List ℕ) (last index : ℕ) (result : Option ValueType) → slice_get labels last ≡ Some result → all_carry labels result listed ≡ true →
