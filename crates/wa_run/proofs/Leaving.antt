@@ -419,6 +419,10 @@ branch_loop_follows label start named others old new d p a l k w g count c ops e
     branch_loops count label start region around operands c ops ends old new f.target (ap (λ (x : Label). x.place) f.mark ∙ p) a
     (l ∙ ap (λ mark. mark ∷ others) (sym f.mark) ∙ ap (λ marks. f.target.mark ∷ marks) (sym f.others_are)) b.holds k (w ∙ cut.1) b.guards g
 
+-- of a stack that is seen twice, the top is the one and what is left the other's
+pub closed_by : {A : Type 0} (xs more left : List A) (a b : A) → xs ≡ a ∷ more → xs ≡ b ∷ left → xs ≡ a ∷ left
+closed_by xs more left a b e f = let same : a ∷ more ≡ b ∷ left = sym e ∙ f in let rest : more ≡ left = cc same in e ∙ ap (λ ys. a ∷ ys) rest
+
 pub branch_returns : {S : Type 0} (label : ℕ) (named : Label) (others : List Label) (old : Running) → drop label old.labels.items ≡ named ∷ others → named.place ≡ place.Body →
     (count : ℕ) (c : Configuration S) (ops : List Op) (ends : List ℕ) (region : Region) (around : List Region) (operands : List Value) → BeforeBranch ops ends region around operands c old →
     IsNoFault (branch label (region ∷ around) operands c) → ReturnsTop (ticked count (branch label (region ∷ around) operands c)) (record c { count = count }) old.store.words.items

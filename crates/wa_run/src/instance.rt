@@ -9,7 +9,7 @@ ghost use Rattle.wa_run.specs.Starts.{CanRun, EndsSo, Function, HasWidth, first_
 use crate::ended::{Ended, outcome};
 use crate::first_values::{first_globals, first_locals, first_memory};
 use crate::guards::Guards;
-use crate::label::{Label, Place};
+use crate::label::BODY;
 use crate::labels::Labels;
 use crate::running::Running;
 use crate::store::Store;
@@ -20,14 +20,6 @@ use wa_machine::within_the_bound;
 use wa_num::Host;
 use wa_ops::{CallNo, ModuleGlobal, NoMemory, Op, Segment};
 use wa_validate::Depth;
-
-/// The label of a function's body.
-const BODY: Label = Label {
-    place: Place::Body,
-    last: 0,
-    height: 0,
-    carries: true,
-};
 
 /// A run that hasn't begun, with all the memory that it takes.
 #[derive(Debug, Drop)]

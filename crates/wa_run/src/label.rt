@@ -26,6 +26,14 @@ pub(crate) struct Label {
     pub(crate) carries: bool,
 }
 
+/// The label of a function's body.
+pub(crate) const BODY: Label = Label {
+    place: Place::Body,
+    last: 0,
+    height: 0,
+    carries: true,
+};
+
 /// Whether a region with this result has one.
 #[inline(always)]
 pub(crate) fn carries(kind: Option<ValueType>) -> bool

@@ -1,7 +1,7 @@
 //! The open regions of flat code.
 ghost use Rattle.std.specs.Prelude.{◌≡◌, ◌∷◌, ◌<◌, ◌≤◌, [], Some, slice_get, length, drop, IfOk};
 
-use crate::label::Label;
+use crate::label::{BODY, Label};
 use std::alloc::Global;
 use std::marker::Model;
 use wa_ops::NoMemory;
@@ -9,16 +9,21 @@ use wa_ops::NoMemory;
 /// Labels in memory that is taken once; contracts see the innermost first.
 #[derive(Debug, Drop)]
 pub(crate) struct Labels {
+    /// The regions that are open, and behind them room.
     labels: Vec<Label>,
+    /// How many regions are open.
+    depth: usize,
 }
 
 impl Model for Labels {
-    ghost use Rattle.std.specs.Prelude.{reverse, vec_capacity};
+    ghost use Rattle.std.specs.Prelude.{◌≤◌, length, reverse, take};
     ghost use Rattle.wa_run.specs.Room.{Labels};
 
     ghost Value = { Labels };
 
-    ghost view = { λ l. record { items = reverse l.labels.items; room = vec_capacity l.labels } };
+    ghost view = { λ l. record { items = reverse (take l.depth l.labels.items); room = length l.labels.items } };
+
+    ghost invariant = { λ l. l.depth ≤ length l.labels.items };
 }
 
 impl Labels {
@@ -26,8 +31,8 @@ impl Labels {
         ensures empty { IfOk result (λ labels. labels.items ≡ []) }
         ensures room { IfOk result (λ labels. room ≤ labels.room) }
     {
-        let labels = Vec::with_capacity(alloc, room)?;
-        Ok(Labels { labels })
+        let labels = vec![in alloc; BODY; room]?;
+        Ok(Labels { labels, depth: 0 })
     }
 
     #[inline(always)]
@@ -36,10 +41,9 @@ impl Labels {
         ensures items { self.new.items ≡ label ∷ self.old.items }
         ensures room { self.old.room ≤ self.new.room }
     {
-        match self.labels.push(label) {
-            Ok(()) => {}
-            Err(_) => unreachable!(),
-        }
+        let depth = self.depth;
+        self.labels[depth] = label;
+        self.depth = depth + 1;
     }
 
     /// Closes the innermost region.
@@ -49,10 +53,17 @@ impl Labels {
         ensures items { self.old.items ≡ result ∷ self.new.items }
         ensures room { self.old.room ≤ self.new.room }
     {
-        match self.labels.pop() {
-            Some(label) => label,
-            None => unreachable!(),
-        }
+        self.depth -= 1;
+        self.labels[self.depth]
+    }
+
+    /// The innermost region.
+    #[inline(always)]
+    pub(crate) fn innermost(&self) -> Label
+        requires some { 0 < length self.now.items }
+        ensures items { self.now.items ≡ result ∷ drop 1 self.now.items }
+    {
+        self.labels[self.depth - 1]
     }
 
     /// Closes the `count` innermost regions.
@@ -62,6 +73,6 @@ impl Labels {
         ensures items { self.new.items ≡ drop count self.old.items }
         ensures room { self.old.room ≤ self.new.room }
     {
-        self.labels.truncate(self.labels.len() - count);
+        self.depth -= count;
     }
 }

@@ -130,17 +130,17 @@ impl Running {
         ensures grows { Widens self.old self.new }
     {
         self.labels.unwind(label as usize);
-        let named = self.labels.close();
+        let named = self.labels.innermost();
         match named.place {
             Place::Body => Some(Stop::Returned(self.store.words.top().cast_signed())),
             Place::Inner => {
+                self.labels.close();
                 self.store.words.carry(named.height, named.carries);
                 self.at = named.last as usize + 1;
                 None
             }
             Place::Loop(start) => {
                 self.store.words.cut(named.height);
-                self.labels.open(named);
                 self.at = start;
                 None
             }

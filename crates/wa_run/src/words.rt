@@ -48,8 +48,9 @@ impl Words {
         ensures items { self.new.items ≡ word ∷ self.old.items }
         ensures room { self.old.room ≤ self.new.room }
     {
-        self.words[self.height] = word;
-        self.height += 1;
+        let height = self.height;
+        self.words[height] = word;
+        self.height = height + 1;
     }
 
     #[inline(always)]
