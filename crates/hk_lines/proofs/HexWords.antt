@@ -6,7 +6,7 @@ use Rattle.std.specs.Result.{result_ok}
 use Rattle.hex.specs.declared.error.FromHexError.{FromHexError}
 use Rattle.hex.specs.Hex.{decode_sized, decode_pairs}
 use Rattle.hk_base.specs.Hexadecimal.{hex_bytes, digit_value, pair_value, all_of}
-use Rattle.hk_base.proofs.HexText.{value_of, decode_of-is}
+use Rattle.hk_base.proofs.HexText.{value_of, decode_of-is, odd_none}
 use Rattle.hk_lines.specs.Words.{sized, sized_bytes_of}
 
 -- a byte before bytes
@@ -43,10 +43,6 @@ none_sized text size (Some bytes) h half =
     let other : length bytes ≡ size → ⊥ = λ e. half (omega (arith, digits, e)) in
     let test : (length bytes == size) ≡ false = grind (arith, nat_tests) in
     rw test refl
-
--- a text of an odd length has no bytes
-odd_none : (text : List ℕ) → length text % 2 ≡ 1 → hex_bytes text ≡ None
-odd_none text odd = sym (decode_of-is text) ∙ (rw odd refl)
 
 -- what the crate `hex` reads into room for so many bytes
 pub decode_sized-is : (text : List ℕ) (size : ℕ) → value_of (decode_sized text size) ≡ sized_bytes_of size text

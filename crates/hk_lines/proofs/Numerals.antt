@@ -1,5 +1,6 @@
 -- Which numbers words spell.
 use Rattle.std.proofs.Common.{◌≡◌, ℕ, ◌<◌, ◌≤◌, ◌^◌, ◌&&◌, Bool, true, false, nat_le, if◌then◌else◌, List, Option, Some, None, refl, sym, ap, ◌∙◌, arith}
+use Rattle.std.proofs.lemmas.Bool.{and_parts}
 use Rattle.std.proofs.lemmas.Bool.Decides.{nat_tests}
 use Rattle.std.proofs.lemmas.Slice.Eq.{bytes_eq-Decides}
 use Rattle.std.proofs.lemmas.Fmt.{decimal_is_IsNumeral}
@@ -13,18 +14,13 @@ pub some_if : {A : Type 0} (test : Bool) (value found : A) → (if test then Som
 some_if true value found h = (refl, cc h)
 some_if false value found h = cc h
 
--- both of two tests hold
-both : (first second : Bool) → (first && second) ≡ true → (first ≡ true) × (second ≡ true)
-both true second h = (refl, h)
-both false second h = cc h
-
 -- a word that has a number is its decimal, and the number is in the range
 pub number_is : (least most number : ℕ) (word : List ℕ) → number_of least most word ≡ Some number →
     (word ≡ decimal number) × (least ≤ number) × (number ≤ most)
 number_is least most number word h =
     let parts = some_if _ _ _ h in
-    let tests = both _ _ parts.0 in
-    let range = both _ _ tests.1 in
+    let tests = and_parts _ _ parts.0 in
+    let range = and_parts _ _ tests.1 in
     let value : digits_value 10 word ≡ number = parts.1 in
     let low : nat_le least (digits_value 10 word) ≡ true = range.0 in
     let high : nat_le (digits_value 10 word) most ≡ true = range.1 in

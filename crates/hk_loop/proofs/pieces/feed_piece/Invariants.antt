@@ -1,7 +1,7 @@
 use Rattle.std.proofs.Common.{◌+◌, ◌≤◌, length}
 use Rattle.hk_lines.specs.Cutting.{IsUnfinished}
 use Rattle.hk_loop.proofs.Feeding.{Leads}
-use Rattle.hk_loop.proofs.pieces.take_piece.Given as goal
+use Rattle.hk_loop.proofs.pieces.feed_piece.Given as goal
 
 -- what was to come is what was printed and what is to come
 abbrev pub invariant-loop-rest : goal.invariant-loop-rest
