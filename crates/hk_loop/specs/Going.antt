@@ -52,7 +52,8 @@ pub record FailsAt (status : Status) (taken : List ℕ) (before now : Option (Li
 
 -- bytes were taken, and there it stopped
 pub record StopsAt {S : Type 0} (turn : S → List ℕ → Turn S) (keeps : S → S → Type 0) (status : Status) (room : ℕ)
-    (state : S) (number : ℕ) (held : List ℕ) (left before : Option (List ℕ)) (next : S) (left' now : Option (List ℕ)) : Type 0 where
+    (state : S) (number : ℕ) (held : List ℕ) (left before : Option (List ℕ))
+    (next : S) (left' now : Option (List ℕ)) : Type 0 where
   pub taken : List ℕ
   pub consumed : Consumes left left' taken
   pub most : length taken ≤ room

@@ -15,9 +15,10 @@ pub trait Command {
     /// What the line with which the command is done leaves of the state before it. By default nothing is said.
     ghost keeps: { Self → Self → Type 0 } = { λ before after. Unit {0} };
 
-    /// Takes a line that isn't skipped, and appends what it prints. After want of memory nothing is known of the command and
-    /// of what was appended.
+    /// Takes a line that isn't skipped, and appends what it prints. After want of memory nothing is known of the
+    /// command and of what was appended.
     fn line(&mut self, alloc: Global, line: &[u8], out: &mut Vec<u8>) -> Result<Turned, NoMemory>
-        ensures did { IfOk result (λ turned. Did (turn self.old line.now) turned self.new out.old.items out.new.items) }
+        ensures did { IfOk result (λ turned.
+            Did (turn self.old line.now) turned self.new out.old.items out.new.items) }
         ensures kept { IfOk result (λ turned. turned ≡ Turned.Ends Status.Done → keeps self.old self.new) };
 }

@@ -15,8 +15,8 @@ use std::alloc::Global;
 /// The most bytes that one read takes.
 const PIECE: usize = 4096;
 
-/// Reads once, takes the bytes and writes what their lines print; the answer is how many bytes there were, at least one. An
-/// error is the status where the command or its input ends, or what stopped it.
+/// Reads once, takes the bytes and writes what their lines print; the answer is how many bytes there were, at least
+/// one. An error is the status where the command or its input ends, or what stopped it.
 pub(crate) fn read_piece<C: Command, S: Source, K: Sink>(
     alloc: Global,
     room: usize,

@@ -12,8 +12,8 @@ use hk_base::NoMemory;
 use hk_lines::{CutLine, Cutter, Rule, Status, push_bad};
 use std::alloc::Global;
 
-/// Runs the line with this number and appends what it prints, its `bad` line where it is wrong. The answer is the status where
-/// the command ends.
+/// Runs the line with this number and appends what it prints, its `bad` line where it is wrong. The answer is the
+/// status where the command ends.
 pub(crate) fn run_line<C: Command>(
     alloc: Global,
     command: &mut C,
@@ -22,7 +22,8 @@ pub(crate) fn run_line<C: Command>(
     out: &mut Vec<u8>,
 ) -> Result<Option<Status>, NoMemory>
     ensures given { IfOk result (λ stop. (raw : List ℕ) → Shows raw line.entry → (later : C → Given) →
-        after out.old.items (given_line C.turn command.old number (trim raw) later) ≡ led stop out.new.items (later command.new)) }
+        after out.old.items (given_line C.turn command.old number (trim raw) later)
+        ≡ led stop out.new.items (later command.new)) }
     ensures reached { IfOk result (λ stop. (raw : List ℕ) → Shows raw line.entry → (later : C → C) →
         LeadsOn C.keeps stop (state_line C.turn command.old (trim raw) later) (later command.new) command.new) }
     ensures well { IfOk result (λ stop. StopsWell stop) }
@@ -58,9 +59,11 @@ pub(crate) fn run_rest<C: Command>(
 ) -> Result<Status, NoMemory>
     requires unfinished { IsUnfinished cutter.now }
     requires fits { number < 2 ^ 63 }
-    ensures given { IfOk result (λ status. after out.old.items (given_from C.turn command.old number (behind cutter.now) ended)
+    ensures given { IfOk result (λ status.
+        after out.old.items (given_from C.turn command.old number (behind cutter.now) ended)
         ≡ led (Some status) out.new.items too_long) }
-    ensures kept { IfOk result (λ status. status ≡ Status.Done → C.keeps (state_last C.turn command.old cutter.now) command.new) }
+    ensures kept { IfOk result (λ status. status ≡ Status.Done →
+        C.keeps (state_last C.turn command.old cutter.now) command.new) }
     ensures well { IfOk result (λ status. IsEnd status) }
 {
     match cutter.rest() {

@@ -22,7 +22,8 @@ pub(crate) struct Part {
     pub(crate) stop: Option<Status>,
 }
 
-/// Runs the lines of a piece and writes what they print. An error is the status where the command ends or what stopped it.
+/// Runs the lines of a piece and writes what they print. An error is the status where the command ends or what stopped
+/// it.
 pub(crate) fn run_piece<C: Command, K: Sink>(
     alloc: Global,
     command: &mut C,
@@ -47,7 +48,8 @@ pub(crate) fn run_piece<C: Command, K: Sink>(
 
     // After a fault or want of memory what was written is the front of what is given.
     ensures stopped { IfErr result (λ status. ¬ IsAnswer status → (more : Cut) (close : Close) →
-        WroteFront (given_from C.turn command.old number.old (begun cutter.old (joined (cut piece.now) more)) close).text
+        WroteFront
+        (given_from C.turn command.old number.old (begun cutter.old (joined (cut piece.now) more)) close).text
         (K.written sink.old) (K.written sink.new)) }
     ensures kept { IfErr result (λ status. status ≡ Status.Done → (more : Cut) →
         C.keeps (state_from C.turn command.old (begun cutter.old (joined (cut piece.now) more))) command.new) }
@@ -68,7 +70,8 @@ pub(crate) fn run_piece<C: Command, K: Sink>(
     }
 }
 
-/// Runs what is left at the end of the input and writes what it prints. The answer is the status of all, or what stopped it.
+/// Runs what is left at the end of the input and writes what it prints. The answer is the status of all, or what
+/// stopped it.
 pub(crate) fn finish<C: Command, K: Sink>(
     alloc: Global,
     command: &mut C,
@@ -79,9 +82,11 @@ pub(crate) fn finish<C: Command, K: Sink>(
     requires unfinished { IsUnfinished cutter.now }
     requires fits { number < 2 ^ 63 }
     ensures answered { IsAnswer result →
-        Gave (given_from C.turn command.old number (behind cutter.now) ended) result (K.written sink.old) (K.written sink.new) }
+        Gave (given_from C.turn command.old number (behind cutter.now) ended) result
+        (K.written sink.old) (K.written sink.new) }
     ensures stopped { ¬ IsAnswer result →
-        WroteFront (given_from C.turn command.old number (behind cutter.now) ended).text (K.written sink.old) (K.written sink.new) }
+        WroteFront (given_from C.turn command.old number (behind cutter.now) ended).text
+        (K.written sink.old) (K.written sink.new) }
     ensures kept { result ≡ Status.Done → C.keeps (state_last C.turn command.old cutter.now) command.new }
     ensures not_full { result ≢ Status.TooLong }
     ensures no_usage { result ≢ Status.Usage }
@@ -106,7 +111,8 @@ pub(crate) fn feed_piece<C: Command>(
     requires unfinished { IsUnfinished cutter.old }
     requires fits { number.old + length piece.now < 2 ^ 63 }
     ensures given { IfOk result (λ stop. (more : Cut) (close : Close) →
-        after out.old.items (given_from C.turn command.old number.old (begun cutter.old (joined (cut piece.now) more)) close)
+        after out.old.items
+        (given_from C.turn command.old number.old (begun cutter.old (joined (cut piece.now) more)) close)
         ≡ led stop out.new.items (given_from C.turn command.new number.new (begun cutter.new more) close)) }
     ensures reached { IfOk result (λ stop. (more : Cut) →
         LeadsOn C.keeps stop (state_from C.turn command.old (begun cutter.old (joined (cut piece.now) more)))
@@ -139,12 +145,15 @@ fn feed_line<C: Command>(
     requires unfinished { IsUnfinished cutter.old }
     requires fits { number.old < 2 ^ 63 }
     ensures given { IfOk result (λ part. (more : Cut) (close : Close) →
-        after out.old.items (given_from C.turn command.old number.old (begun cutter.old (joined (cut piece.now) more)) close)
+        after out.old.items
+        (given_from C.turn command.old number.old (begun cutter.old (joined (cut piece.now) more)) close)
         ≡ led part.stop out.new.items
-        (given_from C.turn command.new number.new (begun cutter.new (joined (cut (drop part.count piece.now)) more)) close)) }
+        (given_from C.turn command.new number.new
+        (begun cutter.new (joined (cut (drop part.count piece.now)) more)) close)) }
     ensures reached { IfOk result (λ part. (more : Cut) →
         LeadsOn C.keeps part.stop (state_from C.turn command.old (begun cutter.old (joined (cut piece.now) more)))
-        (state_from C.turn command.new (begun cutter.new (joined (cut (drop part.count piece.now)) more))) command.new) }
+        (state_from C.turn command.new (begun cutter.new (joined (cut (drop part.count piece.now)) more)))
+        command.new) }
     ensures well { IfOk result (λ part. StopsWell part.stop) }
     ensures unfinished { IfOk result (λ part. part.stop ≡ None → IsUnfinished cutter.new) }
     ensures number { IfOk result (λ _. number.new ≤ number.old + 1) }

@@ -14,7 +14,8 @@ use hk_base::{Sink, Source};
 use hk_lines::{Cutter, Status, too_long_line};
 use std::alloc::Global;
 
-/// Takes the source's bytes, up to the limit, until the command ends, and writes what their lines print before it reads on.
+/// Takes the source's bytes, up to the limit, until the command ends, and writes what their lines print before it
+/// reads on.
 pub fn go_through<C: Command, S: Source, K: Sink>(
     alloc: Global,
     limit: usize,
@@ -29,19 +30,22 @@ pub fn go_through<C: Command, S: Source, K: Sink>(
         Gave (gives C.turn limit command.old bytes) result (K.written sink.old) (K.written sink.new) }
 
     // Where no call failed, it answers that, or there was want of memory.
-    ensures exact { ¬ Rose (S.faults source.old) (S.faults source.new) → ¬ Rose (K.faults sink.old) (K.faults sink.new) →
+    ensures exact { ¬ Rose (S.faults source.old) (S.faults source.new) →
+        ¬ Rose (K.faults sink.old) (K.faults sink.new) →
         (bytes : List ℕ) → S.left source.old ≡ Some bytes → IsExact C.turn limit command.old bytes result }
 
     // Where the command is done, it keeps what it says of the state that the lines lead to.
     ensures kept { result ≡ Status.Done → (bytes : List ℕ) → S.left source.old ≡ Some bytes →
         C.keeps (reached C.turn limit command.old bytes) command.new }
 
-    // Whatever it answers, no more was written than is due for the bytes taken, and no less than was due one piece before.
+    // Whatever it answers, no more was written than is due for the bytes taken, and no less than was due one piece
+    // before.
     ensures leaves { (bytes : List ℕ) → S.left source.old ≡ Some bytes →
         Leaves C.turn C.keeps limit command.old bytes result command.new
         (S.left source.new) (K.written sink.old) (K.written sink.new) }
     ensures no_usage { result ≢ Status.Usage }
-    ensures cause { HasCause result (S.faults source.old) (S.faults source.new) (K.faults sink.old) (K.faults sink.new) }
+    ensures cause { HasCause result (S.faults source.old) (S.faults source.new)
+        (K.faults sink.old) (K.faults sink.new) }
 {
     let mut cutter = Cutter::new(alloc);
     let mut number = 1;
