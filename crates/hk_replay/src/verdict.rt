@@ -1,9 +1,11 @@
-//! How a refused code is told.
+//! How the verdict on a code is told.
 ghost use Rattle.std.specs.Prelude.{◌≡◌, ◌++◌, codes, IfOk, string_bytes};
-ghost use Rattle.hk_replay.specs.Refusals.{rule_name, rule_place, place_text, export_name, refused_line};
+ghost use Rattle.hk_base.specs.Hexadecimal.{hex_text};
+ghost use Rattle.hk_replay.specs.VerdictLines.{accepted_line, cbak_text, refused_line};
+ghost use Rattle.hk_replay.specs.VerdictLines.{rule_name, rule_place, place_text, export_name};
 
-use hk_base::NoMemory;
-use hk_bound::{CheckFault, Export};
+use hk_base::{Hash256, NoMemory};
+use hk_bound::{CheckFault, Checked, Export};
 use std::alloc::Global;
 use wa_ops::RuleFault;
 
@@ -16,6 +18,33 @@ pub(crate) enum Place {
     Item(u32),
     /// An instruction of one of its functions.
     Op { func: u32, op: u32 },
+}
+
+/// The line of an accepted code: its hash and its bounds.
+pub(crate) fn accepted_line(alloc: Global, checked: &Checked) -> Result<String, NoMemory>
+    ensures line { IfOk result (λ line. string_bytes line ≡ accepted_line checked.now) }
+{
+    let hash = hash_text(alloc, &checked.hash())?;
+    let bound = checked.bound_hook();
+    let cbak = cbak_text(alloc, checked.bound_cbak())?;
+    format!(in alloc; "ok {hash} hook {bound} cbak {cbak}\n")
+}
+
+// A hash in lower-case hex.
+fn hash_text(alloc: Global, hash: &Hash256) -> Result<String, NoMemory>
+    ensures text { IfOk result (λ text. string_bytes text ≡ hex_text hash.now.0) }
+{
+    hex::encode(alloc, &hash.0)
+}
+
+// The bound of `cbak`, or a dash.
+fn cbak_text(alloc: Global, bound: Option<u64>) -> Result<String, NoMemory>
+    ensures text { IfOk result (λ text. string_bytes text ≡ cbak_text bound) }
+{
+    match bound {
+        None => String::from_str(alloc, "-"),
+        Some(bound) => format!(in alloc; "{bound}"),
+    }
 }
 
 /// The line of a refusal.

@@ -1,15 +1,30 @@
--- How a refused code is told (this project's own). Byte 32 is a space.
-use Rattle.std.specs.Prelude.{ℕ, List, [], ◌∷◌, ◌++◌, codes}
+-- How the verdict on a code is told (this project's own). Byte 32 is a space and 45 a dash.
+use Rattle.std.specs.Prelude.{ℕ, List, [], ◌∷◌, ◌++◌, codes, Option, Some, None}
 use Rattle.std.specs.Fmt.{decimal}
+use Rattle.hk_base.specs.Hexadecimal.{hex_text}
 use Rattle.wa_ops.specs.declared.rule_fault.RuleFault.{RuleFault}
 use Rattle.wa_ops.specs.declared.rule_fault.RuleFault.TheVariants as rule
+use Rattle.hk_bound.specs.Checks.{Held}
 use Rattle.hk_bound.specs.declared.fault.CheckFault.{CheckFault}
 use Rattle.hk_bound.specs.declared.fault.CheckFault.TheVariants as fault
 use Rattle.hk_bound.specs.declared.fault.Export.{Export}
 use Rattle.hk_bound.specs.declared.fault.Export.TheVariants as «export»
-use Rattle.hk_replay.specs.declared.refusal.Place.{Place}
-use Rattle.hk_replay.specs.declared.refusal.Place.TheVariants as place
+use Rattle.hk_replay.specs.declared.verdict.Place.{Place}
+use Rattle.hk_replay.specs.declared.verdict.Place.TheVariants as place
 
+-- the bound of `cbak`, or a dash
+abbrev pub cbak_text : Option ℕ → List ℕ
+cbak_text None = 45 ∷ []
+cbak_text (Some bound) = decimal bound
+
+-- the line of an accepted code: its hash and its bounds
+abbrev pub accepted_line : Held → List ℕ
+accepted_line held =
+    codes "ok "
+    ++ (hex_text held.hash.0
+    ++ (codes " hook " ++ (decimal held.bound_hook ++ (codes " cbak " ++ (cbak_text held.bound_cbak ++ 10 ∷ [])))))
+
+-- the name of the rule that is broken
 abbrev pub rule_name : RuleFault → List ℕ
 rule_name (rule.FloatType index) = codes "float type"
 rule_name (rule.FloatGlobal index) = codes "float global"
@@ -33,6 +48,7 @@ rule_name (rule.GuardNotConstant func op) = codes "guard constant"
 rule_name (rule.LoopWithoutGuard func op) = codes "loop guard"
 rule_name rule.NoMemory = codes "no memory"
 
+-- where it is broken
 abbrev pub rule_place : RuleFault → Place
 rule_place (rule.FloatType index) = place.Item index
 rule_place (rule.FloatGlobal index) = place.Item index
@@ -66,5 +82,6 @@ refused_line fault.TooLong = codes "refused too long" ++ 10 ∷ []
 refused_line fault.Malformed = codes "refused malformed" ++ 10 ∷ []
 refused_line (fault.Rule found) = codes "refused " ++ (rule_name found ++ place_text (rule_place found))
 refused_line (fault.Untyped func op) = codes "refused untyped " ++ (decimal func ++ (32 ∷ (decimal op ++ 10 ∷ [])))
-refused_line (fault.BoundTooLarge which bound) = codes "refused bound " ++ (export_name which ++ (32 ∷ (decimal bound ++ 10 ∷ [])))
+refused_line (fault.BoundTooLarge which bound) =
+    codes "refused bound " ++ (export_name which ++ (32 ∷ (decimal bound ++ 10 ∷ [])))
 refused_line fault.NoMemory = []

@@ -1,5 +1,5 @@
 use Rattle.hk_base.proofs.HexText.{encode_lower-is}
-use Rattle.hk_replay.proofs.reply.hash_text.Goals as goal
+use Rattle.hk_replay.proofs.verdict.hash_text.Goals as goal
 
 -- the crate `hex` writes the text of the definition
 pub returns : goal.returns
