@@ -17,7 +17,7 @@ pub front_same : (front text : List ℕ) → text ≡ front → IsFront front te
 front_same front text e = ([], e ∙ sym (append-nil front))
 
 -- a text before both
-front_after : (text front all : List ℕ) → IsFront front all → IsFront (text ++ front) (text ++ all)
+pub front_after : (text front all : List ℕ) → IsFront front all → IsFront (text ++ front) (text ++ all)
 front_after text front all is = (is.0, ap (λ t. text ++ t) is.1 ∙ sym (append_assoc text front is.0))
 
 module _ {S : Type 0} (turn : S → List ℕ → Turn S) where

@@ -2,10 +2,10 @@
 use Rattle.std.proofs.Common.{◌-◌, min, ◌≡◌, ◌≢◌, ◌<◌, ◌≤◌, ◌⊎◌, ℕ, ◌+◌, ◌==◌, false, if◌then◌else◌, List, [], ◌∷◌, ◌++◌, length, take, refl, sym, ap, subst, ◌∙◌, inl, inr, arith, append-nil, length-append}
 use Rattle.std.proofs.lemmas.Bool.{cases_eq}
 use Rattle.std.proofs.lemmas.List.{append_cancel_right, take-take, length-take}
-use Rattle.hk_lines.specs.Cut.{Cut, behind, whole, cut, begun, joined}
-use Rattle.hk_lines.specs.Cutting.{IsUnfinished, IsLine, IsEndless, IsHeld, listed, IsCut, CutsPieces}
-use Rattle.hk_lines.specs.Numbers.{endless_line}
-use Rattle.hk_lines.proofs.CutLemmas.{cut_joined, begun_nothing, uncut, uncut_cut}
+use Rattle.hk_lines.specs.Cut.{Cut, behind, whole, cut, begun, joined, trim}
+use Rattle.hk_lines.specs.Cutting.{IsUnfinished, IsLine, IsEndless, IsHeld, listed, IsCut, IsTooLong, CutsPieces}
+use Rattle.hk_lines.specs.Numbers.{longest_line, endless_line}
+use Rattle.hk_lines.proofs.CutLemmas.{cut_joined, begun_nothing, trim_length, uncut, uncut_cut}
 
 -- ---- whatever the pieces
 
@@ -33,6 +33,13 @@ piece_joined taken lines held piece h =
 held_piece : (held piece : List ℕ) → cut held ≡ behind held → cut (held ++ piece) ≡ begun held (cut piece)
 held_piece held piece h = cut_joined held piece ∙ ap (λ c. joined c (cut piece)) h
 
+-- bytes that are too many for a line begin one that is too long
+endless_begun : (bytes : List ℕ) (c : Cut) → length bytes ≡ endless_line → IsTooLong (begun bytes c)
+endless_begun bytes (behind more) size = omega (arith, size, length-append bytes more)
+endless_begun bytes (whole line more) size =
+    let trimmed : length (bytes ++ line) ≤ length (trim (bytes ++ line)) + 1 = trim_length (bytes ++ line) in
+    omega (arith, size, trimmed, length-append bytes line)
+
 pub cuts_pieces_law : CutsPieces
 cuts_pieces_law = record {
   nothing = refl;
@@ -44,6 +51,16 @@ cuts_pieces_law = record {
       piece_joined taken lines held piece is
       ∙ ap (joined (listed lines [])) (sym (held_piece held piece uncut_held) ∙ more)
       ∙ listed_line lines line;
+  ends_endless = λ taken lines held piece more uncut_held is endless.
+      let held_on : IsCut (taken ++ piece) lines (held ++ piece) =
+      piece_joined taken lines held piece is
+      ∙ ap (joined (listed lines [])) (sym (held_piece held piece uncut_held) ∙ endless.0)
+      ∙ listed_behind lines (held ++ piece) in
+      record {
+        rest = begun (held ++ piece) (cut more);
+        cuts = piece_joined (taken ++ piece) lines (held ++ piece) more held_on;
+        long = endless_begun (held ++ piece) (cut more) endless.1;
+      };
 }
 
 -- ---- the first line feed of a piece

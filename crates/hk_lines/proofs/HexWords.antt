@@ -6,7 +6,7 @@ use Rattle.std.specs.Result.{result_ok}
 use Rattle.hex.specs.declared.error.FromHexError.{FromHexError}
 use Rattle.hex.specs.Hex.{decode_sized, decode_pairs}
 use Rattle.hk_base.specs.Hexadecimal.{hex_bytes, digit_value, pair_value, all_of}
-use Rattle.hk_base.proofs.HexText.{value_of, decode_of-is}
+use Rattle.hk_base.proofs.HexText.{value_of, decode_of-is, odd_none}
 use Rattle.hk_lines.specs.Words.{sized, sized_bytes_of}
 use Rattle.hk_base.proofs.HexText.{odd_none}
 

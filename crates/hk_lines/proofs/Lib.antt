@@ -6,3 +6,4 @@ pub mod CutLemmas
 pub mod Fusing
 pub mod Due
 pub mod HeldLemmas
+pub mod Ending

@@ -1,6 +1,6 @@
 -- Which numbers words spell.
 use Rattle.std.proofs.Common.{◌≡◌, ℕ, ◌<◌, ◌≤◌, ◌^◌, ◌&&◌, Bool, true, false, nat_le, if◌then◌else◌, List, Option, Some, None, refl, sym, ap, ◌∙◌, arith}
-use Rattle.std.proofs.lemmas.Bool.{and_parts as both}
+use Rattle.std.proofs.lemmas.Bool.{and_parts}
 use Rattle.std.proofs.lemmas.Bool.Decides.{nat_tests}
 use Rattle.std.proofs.lemmas.Slice.Eq.{bytes_eq-Decides}
 use Rattle.std.proofs.lemmas.Fmt.{decimal_is_IsNumeral}
@@ -19,8 +19,8 @@ pub number_is : (least most number : ℕ) (word : List ℕ) → number_of least 
     (word ≡ decimal number) × (least ≤ number) × (number ≤ most)
 number_is least most number word h =
     let parts = some_if _ _ _ h in
-    let tests = both _ _ parts.0 in
-    let range = both _ _ tests.1 in
+    let tests = and_parts _ _ parts.0 in
+    let range = and_parts _ _ tests.1 in
     let value : digits_value 10 word ≡ number = parts.1 in
     let low : nat_le least (digits_value 10 word) ≡ true = range.0 in
     let high : nat_le (digits_value 10 word) most ≡ true = range.1 in

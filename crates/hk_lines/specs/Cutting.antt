@@ -1,6 +1,6 @@
 -- What is held of a line that comes in pieces (this project's own).
 use Rattle.std.specs.Prelude.{◌≡◌, ◌<◌, ◌≤◌, ◌⊎◌, ℕ, List, [], ◌∷◌, ◌++◌, length}
-use Rattle.hk_lines.specs.Cut.{Cut, behind, whole, cut, trim}
+use Rattle.hk_lines.specs.Cut.{Cut, behind, whole, cut, joined, trim}
 use Rattle.hk_lines.specs.Numbers.{longest_line, endless_line}
 use Rattle.hk_lines.specs.declared.cutting.CutLine.{CutLine}
 use Rattle.hk_lines.specs.declared.cutting.CutLine.TheVariants.{Whole, TooLong}
@@ -45,12 +45,30 @@ listed (line ∷ lines) held = whole line (listed lines held)
 abbrev pub IsCut : List ℕ → List (List ℕ) → List ℕ → Type 0
 IsCut taken lines held = cut taken ≡ listed lines held
 
--- the lines and the rest of pieces are those of the joined bytes: a piece goes on the held bytes, and where a line is whole it is the next
+-- the first line is too long
+abbrev pub IsTooLong : Cut → Type 0
+IsTooLong (behind bytes) = endless_line ≤ length bytes
+IsTooLong (whole line more) = longest_line < length (trim line)
+
+-- these lines, and behind them one that is too long
+pub record EndsTooLong (lines : List (List ℕ)) (bytes : List ℕ) : Type 0 where
+  pub rest : Cut
+  pub cuts : cut bytes ≡ joined (listed lines []) rest
+  pub long : IsTooLong rest
+
+-- the lines and the rest of pieces are those of the joined bytes: a piece goes on the held bytes, and where a line is whole
+-- it is the next; where the held bytes are endless the next line is too long, whatever comes behind them
 pub record CutsPieces : Type 0 where
   pub nothing : IsCut [] [] []
   pub goes_on :
       (taken : List ℕ) (lines : List (List ℕ)) (held piece : List ℕ) →
-      cut held ≡ behind held → IsCut taken lines held → cut (held ++ piece) ≡ behind (held ++ piece) → IsCut (taken ++ piece) lines (held ++ piece)
+      cut held ≡ behind held → IsCut taken lines held →
+      cut (held ++ piece) ≡ behind (held ++ piece) → IsCut (taken ++ piece) lines (held ++ piece)
   pub ends_line :
       (taken : List ℕ) (lines : List (List ℕ)) (held piece line : List ℕ) →
-      cut held ≡ behind held → IsCut taken lines held → cut (held ++ piece) ≡ whole line (behind []) → IsCut (taken ++ piece) (lines ++ line ∷ []) []
+      cut held ≡ behind held → IsCut taken lines held →
+      cut (held ++ piece) ≡ whole line (behind []) → IsCut (taken ++ piece) (lines ++ line ∷ []) []
+  pub ends_endless :
+      (taken : List ℕ) (lines : List (List ℕ)) (held piece more : List ℕ) →
+      cut held ≡ behind held → IsCut taken lines held →
+      IsEndless (held ++ piece) → EndsTooLong lines ((taken ++ piece) ++ more)

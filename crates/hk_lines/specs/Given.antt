@@ -45,11 +45,15 @@ bad number rule = record { text = bad_text number rule; status = Some BadInput }
 abbrev pub too_long : Given
 too_long = record { text = codes "too long" ++ 10 ∷ []; status = Some TooLong }
 
--- what a line does: the command goes on in a state and prints a text, or it ends with a text and a status, or the line is wrong
-pub data Turn (S : Type 0) : Type 0 where
-  goes : S → List ℕ → Turn S
-  ends : List ℕ → Status → Turn S
-  wrong : Rule → Turn S
+-- what a line does: it is right and leaves a state and an output, or it ends the lines with an output and a status, or it is wrong
+pub data TurnOf (S O : Type 0) : Type 0 where
+  goes : S → O → TurnOf S O
+  ends : O → Status → TurnOf S O
+  wrong : Rule → TurnOf S O
+
+-- the output of a command is a text
+abbrev pub Turn : Type 0 → Type 0
+Turn S = TurnOf S (List ℕ)
 
 module _ {S : Type 0} (turn : S → List ℕ → Turn S) where
   -- what a line and those behind it give

@@ -6,5 +6,8 @@ pub mod Names
 pub mod OutputForms
 pub mod Cut
 pub mod Given
+pub mod Reached
 pub mod Lines
 pub mod Cutting
+pub mod Taken
+pub mod Ended

@@ -2,6 +2,7 @@
 ghost use Rattle.std.specs.Prelude.{List, ℕ};
 ghost use Rattle.hk_lines.specs.Cut.{CutsJoined};
 ghost use Rattle.hk_lines.specs.Cutting.{CutsPieces};
+ghost use Rattle.hk_lines.specs.Ended.{GivesStatus};
 ghost use Rattle.hk_lines.specs.Given.{Turn, StaysDue};
 ghost use Rattle.hk_lines.specs.Lines.{Read, Machine, Fuses};
 
@@ -29,6 +30,11 @@ pub fn cuts_joined()
 /// What is due stays due, whatever comes behind the bytes.
 pub fn stays_due<T: LineByLine>()
     ensures law { StaysDue T.turn }
+{}
+
+/// Whatever the bytes, with the end of input behind them they give a text and a status.
+pub fn gives_status<T: LineByLine>()
+    ensures law { GivesStatus T.turn }
 {}
 
 /// Reading and running line by line gives what the machine gives for the lines.

@@ -9,12 +9,14 @@ use Rattle.hk_lines.specs.Cut.{Cut, behind, whole, cut, begun, joined}
 use Rattle.hk_lines.specs.Cutting.{IsUnfinished}
 use Rattle.hk_lines.specs.Given.{Close, opened, ended, full, Given, after, bad, too_long, Turn, given_from, given_last, close_of, given, gives, so_far, IsFront}
 use Rattle.hk_lines.specs.Numbers.{endless_line}
+use Rattle.hk_lines.specs.Reached.{state_last, state_from, reached}
 use Rattle.hk_lines.specs.declared.rule.Rule.TheVariants.{LineTooLong}
 use Rattle.hk_lines.specs.declared.status.Status.{Status}
 use Rattle.hk_lines.specs.declared.status.Status.TheVariants.{Done, Usage, BadInput, ReadFault, WriteFault, NoMemory, HookRefused, TooLong}
 use Rattle.hk_lines.proofs.CutLemmas.{cut_joined, joined_joined}
-use Rattle.hk_lines.proofs.Due.{from_front, given_full, given_short}
+use Rattle.hk_lines.proofs.Due.{front_after, from_front, given_full, given_short}
 use Rattle.hk_loop.specs.Answers.{IsAnswer, WroteFront, Gave}
+use Rattle.hk_loop.specs.Causes.{HasCause, HasSinkCause}
 use Rattle.hk_loop.specs.Going.{StopsAt, EndsAt, BreaksAt, FailsAt}
 use Rattle.hk_loop.specs.Through.{close_at, Leaves}
 use Rattle.hk_loop.proofs.Invariant.{Going}
@@ -58,10 +60,6 @@ front_of early late first more is longer =
 front_more : (front text more : List ℕ) → IsFront front text → IsFront front (text ++ more)
 front_more front text more (rest, is) = (rest ++ more, ap (λ t. t ++ more) is ∙ append_assoc front rest more)
 
--- a text before both
-front_behind : (text front all : List ℕ) → IsFront front all → IsFront (text ++ front) (text ++ all)
-front_behind text front all (rest, is) = (rest, ap (λ t. text ++ t) is ∙ sym (append_assoc text front rest))
-
 -- ---- what is given
 
 -- nothing is joined
@@ -94,6 +92,11 @@ wrote_front status given before now answered stopped = of_either status answered
   of_either ReadFault answered stopped = stopped (λ no. no)
   of_either WriteFault answered stopped = stopped (λ no. no)
   of_either NoMemory answered stopped = stopped (λ no. no)
+
+-- an input that is too long is never done
+pub never_done : {X : Type 0} (status : Status) → (IsAnswer status → (status ≡ TooLong) × X) → status ≡ Done → ⊥
+never_done status answered done =
+    let long : status ≡ TooLong = (answered (subst IsAnswer (sym done) tt)).0 in absurd (cc)
 
 module _ {S : Type 0} (turn : S → List ℕ → Turn S) where
   -- what is given for bytes up to the limit
@@ -178,13 +181,71 @@ module _ {S : Type 0} (turn : S → List ℕ → Turn S) (limit room : ℕ) (sta
       ∙ not_yet (given_from turn start 1 (cut early) opened) (given_from turn start 1 (joined (cut early) (cut rest)) opened)
       (from_stays turn (cut early) (cut rest) start 1 opened) none
 
+  -- ---- the states that bytes lead to
+
+  reached_more : (piece : List ℕ) (more : Cut) →
+      state_from turn start (joined (cut (was.taken ++ piece)) more) ≡ state_from turn state (begun held (joined (cut piece) more))
+  reached_more piece more =
+      ap (λ c. state_from turn start (joined c more)) (cut_joined was.taken piece)
+      ∙ ap (state_from turn start) (joined_joined (cut was.taken) (cut piece) more)
+      ∙ was.reached (joined (cut piece) more)
+
+  reached_taken : (piece : List ℕ) → length piece ≤ room →
+      reached turn limit start (was.taken ++ piece) ≡ state_from turn state (begun held (joined (cut piece) (behind [])))
+  reached_taken piece most =
+      let few : length (was.taken ++ piece) ≤ limit = omega (arith, length-append was.taken piece, was.size) in
+      ap (state_from turn start) (ap cut (take_all limit (was.taken ++ piece) few) ∙ sym (joined_nothing (cut (was.taken ++ piece))))
+      ∙ reached_more piece (behind [])
+
+  reached_on : (piece rest : List ℕ) → length piece ≤ room → (more : Cut) × (reached turn limit start ((was.taken ++ piece) ++ rest)
+      ≡ state_from turn state (begun held (joined (cut piece) more)))
+  reached_on piece rest most =
+      let few : length (was.taken ++ piece) ≤ limit = omega (arith, length-append was.taken piece, was.size) in
+      let left : ℕ = limit - length (was.taken ++ piece) in
+      let sum : limit ≡ length (was.taken ++ piece) + left = omega arith in
+      let same : take limit ((was.taken ++ piece) ++ rest) ≡ (was.taken ++ piece) ++ take left rest =
+      ap (λ n. take n ((was.taken ++ piece) ++ rest)) sum ∙ take-append-add (was.taken ++ piece) rest left in (
+        cut (take left rest),
+        ap (state_from turn start) (ap cut same ∙ cut_joined (was.taken ++ piece) (take left rest))
+            ∙ reached_more piece (cut (take left rest)),
+      )
+
+  reached_end : (piece : List ℕ) → piece ≡ [] →
+      state_from turn state (begun held (joined (cut piece) (behind []))) ≡ state_last turn state held
+  reached_end piece nothing =
+      ap (λ p. state_from turn state (begun held (joined (cut p) (behind [])))) nothing ∙ ap (state_last turn state) (append-nil held)
+
+  stops_kept : {keeps : S → S → Type 0} {final : S} (piece rest bytes : List ℕ) (status : Status) (left' written' : Option (List ℕ)) →
+      bytes ≡ (was.taken ++ piece) ++ rest → left' ≡ Some rest → length piece ≤ room →
+      EndsAt turn keeps status state number held piece final left' written written'
+      ⊎ (BreaksAt turn keeps status state number held piece final written written' ⊎ FailsAt status piece written written') →
+      status ≡ Done → keeps (reached turn limit start bytes) final
+  stops_kept {keeps} {final} piece rest bytes status left' written' split told most (inl ends) done =
+      let none : rest ≡ [] = at_end_none left' rest ends.at_end told in
+      let all : bytes ≡ was.taken ++ piece = split ∙ ap (λ r. (was.taken ++ piece) ++ r) none ∙ append-nil (was.taken ++ piece) in
+      subst (λ s. keeps s final) (sym (ap (reached turn limit start) all ∙ reached_taken piece most ∙ reached_end piece ends.nothing)) (ends.kept done)
+  stops_kept {keeps} {final} piece rest bytes status left' written' split told most (inr (inl breaks)) done =
+      let on = reached_on piece rest most in
+      subst (λ s. keeps s final) (sym (ap (reached turn limit start) split ∙ on.1)) (breaks.kept done on.0)
+  stops_kept piece rest bytes status left' written' split told most (inr (inr fails)) done =
+      let fault : status ≡ ReadFault = fails.failed in absurd (cc)
+
+  pub stopped_kept : {keeps : S → S → Type 0} {final : S} (status : Status) (left' written' : Option (List ℕ)) →
+      StopsAt turn keeps status room state number held left written final left' written' → status ≡ Done → (bytes : List ℕ) →
+      left0 ≡ Some bytes → keeps (reached turn limit start bytes) final
+  stopped_kept status left' written' stops done bytes known =
+      let all : Took bytes (was.taken ++ stops.taken) left' =
+      took left0 left' (was.taken ++ stops.taken) bytes (takes_more _ _ _ _ _ was.consumed stops.consumed) known in
+      stops_kept stops.taken all.rest bytes status left' written' all.split all.told stops.most stops.why done
+
   -- a last piece was taken, and a front of what comes then was written
-  leave : (piece rest bytes : List ℕ) (status : Status) (left' written' : Option (List ℕ)) (later : Given) → bytes ≡ (was.taken ++ piece) ++ rest →
+  leave : {keeps : S → S → Type 0} {final : S} (piece rest bytes : List ℕ) (status : Status) (left' written' : Option (List ℕ)) (later : Given) → bytes ≡ (was.taken ++ piece) ++ rest →
       left' ≡ Some rest → length piece ≤ room → length piece ≤ 65536 → (status ≡ TooLong → room ≡ length piece) →
       given turn limit start (was.taken ++ piece) (close_at rest) ≡ after was.front later → (wrote : WroteFront later.text written written') →
       (IsAnswer status → Gave later status written written') → (status ≡ ReadFault → was.front ++ wrote.front ≡ so_far turn limit start (was.taken ++ piece)) →
-      Leaves turn limit start bytes status left' written0 written'
-  leave piece rest bytes status left' written' later split told most size no_more is wrote gave failed =
+      (status ≡ Done → keeps (reached turn limit start (was.taken ++ piece)) final) →
+      Leaves turn keeps limit start bytes status final left' written0 written'
+  leave {keeps} {final} piece rest bytes status left' written' later split told most size no_more is wrote gave failed kept =
       let few : length (was.taken ++ piece) ≤ limit = omega (arith, length-append was.taken piece, was.size) in
       record {
         taken = was.taken ++ piece;
@@ -197,10 +258,11 @@ module _ {S : Type 0} (turn : S → List ℕ → Turn S) (limit room : ℕ) (sta
         answered = λ answer. gave_after was.front later (given turn limit start (was.taken ++ piece) (close_at rest)) status written0 written written' was.wrote is (gave answer);
         full = λ long. let all : room ≡ length piece = no_more long in omega (arith, length-append was.taken piece, was.size);
         due = subst (λ g. IsFront (was.front ++ wrote.front) g.text) (sym is)
-            (front_behind was.front wrote.front later.text (wrote.more, wrote.whole));
+            (front_after was.front wrote.front later.text (wrote.more, wrote.whole));
         prompt = λ early late parts much. front_more _ was.front wrote.front (prompt_front piece early late few size parts much);
         goes = λ early late parts much. goes_front piece early late few size parts much;
         failed = failed;
+        kept = kept;
       }
 
   -- ---- the input ended
@@ -216,8 +278,8 @@ module _ {S : Type 0} (turn : S → List ℕ → Turn S) (limit room : ℕ) (sta
       ∙ given_taken ended
       ∙ ap (after was.front) (sym (unfinished_last turn state number held ended was.unfinished))
 
-  end_answers : (piece rest bytes : List ℕ) (status : Status) (left' written' : Option (List ℕ)) → bytes ≡ (was.taken ++ piece) ++ rest →
-      left' ≡ Some rest → 0 < room → EndsAt turn status state number held piece left' written written' → IsAnswer status →
+  end_answers : {keeps : S → S → Type 0} {final : S} (piece rest bytes : List ℕ) (status : Status) (left' written' : Option (List ℕ)) → bytes ≡ (was.taken ++ piece) ++ rest →
+      left' ≡ Some rest → 0 < room → EndsAt turn keeps status state number held piece final left' written written' → IsAnswer status →
       Gave (gives turn limit start bytes) status written0 written'
   end_answers piece rest bytes status left' written' split told some ends answer =
       let none : rest ≡ [] = at_end_none left' rest ends.at_end told in
@@ -226,14 +288,15 @@ module _ {S : Type 0} (turn : S → List ℕ → Turn S) (limit room : ℕ) (sta
       (ap (gives turn limit start) all ∙ given_end piece [] some ends.nothing refl)
       (ends.answered answer)
 
-  end_leaves : (piece rest bytes : List ℕ) (status : Status) (left' written' : Option (List ℕ)) → bytes ≡ (was.taken ++ piece) ++ rest →
+  end_leaves : {keeps : S → S → Type 0} {final : S} (piece rest bytes : List ℕ) (status : Status) (left' written' : Option (List ℕ)) → bytes ≡ (was.taken ++ piece) ++ rest →
       left' ≡ Some rest → length piece ≤ room → length piece ≤ 65536 → 0 < room → status ≢ TooLong →
-      EndsAt turn status state number held piece left' written written' → Leaves turn limit start bytes status left' written0 written'
-  end_leaves piece rest bytes status left' written' split told most size some short ends =
+      EndsAt turn keeps status state number held piece final left' written written' → Leaves turn keeps limit start bytes status final left' written0 written'
+  end_leaves {keeps} {final} piece rest bytes status left' written' split told most size some short ends =
       leave piece rest bytes status left' written' (given_from turn state number (behind held) ended) split told most size (λ long. absurd (short long))
       (given_end piece rest some ends.nothing (at_end_none left' rest ends.at_end told))
       (wrote_front status (given_from turn state number (behind held) ended) written written' ends.answered ends.stopped)
       ends.answered (λ fault. absurd (ends.no_read_fault fault))
+      (λ done. subst (λ s. keeps s final) (sym (reached_taken piece most ∙ reached_end piece ends.nothing)) (ends.kept done))
 
   -- ---- a piece ended the command
 
@@ -246,8 +309,8 @@ module _ {S : Type 0} (turn : S → List ℕ → Turn S) (limit room : ℕ) (sta
       given_at turn limit start (was.taken ++ piece) (close_at rest) few
       ∙ given_more piece (behind []) (close_of turn limit (was.taken ++ piece) (close_at rest))
 
-  break_answers : (piece rest bytes : List ℕ) (status : Status) (written' : Option (List ℕ)) → bytes ≡ (was.taken ++ piece) ++ rest →
-      length piece ≤ room → BreaksAt turn status state number held piece written written' → IsAnswer status →
+  break_answers : {keeps : S → S → Type 0} {final : S} (piece rest bytes : List ℕ) (status : Status) (written' : Option (List ℕ)) → bytes ≡ (was.taken ++ piece) ++ rest →
+      length piece ≤ room → BreaksAt turn keeps status state number held piece final written written' → IsAnswer status →
       Gave (gives turn limit start bytes) status written0 written'
   break_answers piece rest bytes status written' split most breaks answer =
       let few : length (was.taken ++ piece) ≤ limit = omega (arith, length-append was.taken piece, was.size) in
@@ -258,23 +321,24 @@ module _ {S : Type 0} (turn : S → List ℕ → Turn S) (limit room : ℕ) (sta
       (ap (gives turn limit start) split ∙ given_on turn limit start (was.taken ++ piece) rest ended few ∙ given_more piece more close)
       (breaks.answered answer more close)
 
-  break_leaves : (piece rest bytes : List ℕ) (status : Status) (left' written' : Option (List ℕ)) → bytes ≡ (was.taken ++ piece) ++ rest →
+  break_leaves : {keeps : S → S → Type 0} {final : S} (piece rest bytes : List ℕ) (status : Status) (left' written' : Option (List ℕ)) → bytes ≡ (was.taken ++ piece) ++ rest →
       left' ≡ Some rest → length piece ≤ room → length piece ≤ 65536 → status ≢ TooLong →
-      BreaksAt turn status state number held piece written written' → Leaves turn limit start bytes status left' written0 written'
-  break_leaves piece rest bytes status left' written' split told most size short breaks =
+      BreaksAt turn keeps status state number held piece final written written' → Leaves turn keeps limit start bytes status final left' written0 written'
+  break_leaves {keeps} {final} piece rest bytes status left' written' split told most size short breaks =
       let close : Close = close_of turn limit (was.taken ++ piece) (close_at rest) in
       let later : Given = given_from turn state number (begun held (joined (cut piece) (behind []))) close in
       leave piece rest bytes status left' written' later split told most size (λ long. absurd (short long)) (given_break piece rest most)
       (wrote_front status later written written' (λ answer. breaks.answered answer (behind []) close)
       (λ accident. breaks.stopped accident (behind []) close))
       (λ answer. breaks.answered answer (behind []) close) (λ fault. absurd (breaks.no_read_fault fault))
+      (λ done. subst (λ s. keeps s final) (sym (reached_taken piece most)) (breaks.kept done (behind [])))
 
   -- ---- a read failed
 
-  fail_leaves : (piece rest bytes : List ℕ) (status : Status) (left' written' : Option (List ℕ)) → bytes ≡ (was.taken ++ piece) ++ rest →
+  fail_leaves : {keeps : S → S → Type 0} {final : S} (piece rest bytes : List ℕ) (status : Status) (left' written' : Option (List ℕ)) → bytes ≡ (was.taken ++ piece) ++ rest →
       left' ≡ Some rest → length piece ≤ room → length piece ≤ 65536 → 0 < room → status ≢ TooLong →
-      FailsAt status piece written written' → Leaves turn limit start bytes status left' written0 written'
-  fail_leaves piece rest bytes status left' written' split told most size some short fails =
+      FailsAt status piece written written' → Leaves turn keeps limit start bytes status final left' written0 written'
+  fail_leaves {keeps} {final} piece rest bytes status left' written' split told most size some short fails =
       let close : Close = close_of turn limit (was.taken ++ piece) (close_at rest) in
       let later : Given = given_from turn state number (begun held (joined (cut piece) (behind []))) close in
       let below : length was.taken < limit = omega (arith, was.size) in
@@ -286,13 +350,14 @@ module _ {S : Type 0} (turn : S → List ℕ → Turn S) (limit room : ℕ) (sta
       leave piece rest bytes status left' written' later split told most size (λ long. absurd (short long)) (given_break piece rest most)
       (record { front = []; more = later.text; whole = refl; wrote = fails.still })
       (λ answer. absurd (subst IsAnswer fails.failed answer)) (λ _. append-nil was.front ∙ sym due)
+      (λ done. let fault : status ≡ ReadFault = fails.failed in absurd (cc))
 
   -- ---- whichever of these
 
-  stops_answers : (piece rest bytes : List ℕ) (status : Status) (left' written' : Option (List ℕ)) → bytes ≡ (was.taken ++ piece) ++ rest →
+  stops_answers : {keeps : S → S → Type 0} {final : S} (piece rest bytes : List ℕ) (status : Status) (left' written' : Option (List ℕ)) → bytes ≡ (was.taken ++ piece) ++ rest →
       left' ≡ Some rest → length piece ≤ room → 0 < room →
-      EndsAt turn status state number held piece left' written written'
-      ⊎ (BreaksAt turn status state number held piece written written' ⊎ FailsAt status piece written written') →
+      EndsAt turn keeps status state number held piece final left' written written'
+      ⊎ (BreaksAt turn keeps status state number held piece final written written' ⊎ FailsAt status piece written written') →
       IsAnswer status → Gave (gives turn limit start bytes) status written0 written'
   stops_answers piece rest bytes status left' written' split told most some (inl ends) answer =
       end_answers piece rest bytes status left' written' split told some ends answer
@@ -300,11 +365,11 @@ module _ {S : Type 0} (turn : S → List ℕ → Turn S) (limit room : ℕ) (sta
       break_answers piece rest bytes status written' split most breaks answer
   stops_answers piece rest bytes status left' written' split told most some (inr (inr fails)) answer = absurd (subst IsAnswer fails.failed answer)
 
-  stops_leaves : (piece rest bytes : List ℕ) (status : Status) (left' written' : Option (List ℕ)) → bytes ≡ (was.taken ++ piece) ++ rest →
+  stops_leaves : {keeps : S → S → Type 0} {final : S} (piece rest bytes : List ℕ) (status : Status) (left' written' : Option (List ℕ)) → bytes ≡ (was.taken ++ piece) ++ rest →
       left' ≡ Some rest → length piece ≤ room → length piece ≤ 65536 → 0 < room → status ≢ TooLong →
-      EndsAt turn status state number held piece left' written written'
-      ⊎ (BreaksAt turn status state number held piece written written' ⊎ FailsAt status piece written written') →
-      Leaves turn limit start bytes status left' written0 written'
+      EndsAt turn keeps status state number held piece final left' written written'
+      ⊎ (BreaksAt turn keeps status state number held piece final written written' ⊎ FailsAt status piece written written') →
+      Leaves turn keeps limit start bytes status final left' written0 written'
   stops_leaves piece rest bytes status left' written' split told most size some short (inl ends) =
       end_leaves piece rest bytes status left' written' split told most size some short ends
   stops_leaves piece rest bytes status left' written' split told most size some short (inr (inl breaks)) =
@@ -312,17 +377,17 @@ module _ {S : Type 0} (turn : S → List ℕ → Turn S) (limit room : ℕ) (sta
   stops_leaves piece rest bytes status left' written' split told most size some short (inr (inr fails)) =
       fail_leaves piece rest bytes status left' written' split told most size some short fails
 
-  pub stopped_answers : (status : Status) (left' written' : Option (List ℕ)) →
-      StopsAt turn status room state number held left written left' written' → 0 < room → IsAnswer status → (bytes : List ℕ) → left0 ≡ Some bytes →
+  pub stopped_answers : {keeps : S → S → Type 0} {final : S} (status : Status) (left' written' : Option (List ℕ)) →
+      StopsAt turn keeps status room state number held left written final left' written' → 0 < room → IsAnswer status → (bytes : List ℕ) → left0 ≡ Some bytes →
       Gave (gives turn limit start bytes) status written0 written'
   stopped_answers status left' written' stops some answer bytes known =
       let all : Took bytes (was.taken ++ stops.taken) left' =
       took left0 left' (was.taken ++ stops.taken) bytes (takes_more _ _ _ _ _ was.consumed stops.consumed) known in
       stops_answers stops.taken all.rest bytes status left' written' all.split all.told stops.most some stops.why answer
 
-  pub stopped_leaves : (status : Status) (left' written' : Option (List ℕ)) →
-      StopsAt turn status room state number held left written left' written' → 0 < room → (bytes : List ℕ) → left0 ≡ Some bytes →
-      Leaves turn limit start bytes status left' written0 written'
+  pub stopped_leaves : {keeps : S → S → Type 0} {final : S} (status : Status) (left' written' : Option (List ℕ)) →
+      StopsAt turn keeps status room state number held left written final left' written' → 0 < room → (bytes : List ℕ) → left0 ≡ Some bytes →
+      Leaves turn keeps limit start bytes status final left' written0 written'
   stopped_leaves status left' written' stops some bytes known =
       let all : Took bytes (was.taken ++ stops.taken) left' =
       took left0 left' (was.taken ++ stops.taken) bytes (takes_more _ _ _ _ _ was.consumed stops.consumed) known in
@@ -343,30 +408,63 @@ module _ {S : Type 0} (turn : S → List ℕ → Turn S) (limit room : ℕ) (sta
     pub answered : IsAnswer status → (status ≡ TooLong) × Appends written written' too_long.text
     pub stopped : (IsAnswer status → ⊥) → WroteFront too_long.text written written'
 
+  tells_line : (status : Status) (written' : Option (List ℕ)) (line : List ℕ) → line ≡ too_long.text →
+      (IsAnswer status → (status ≡ TooLong) × Appends written written' line) → ((IsAnswer status → ⊥) → WroteFront line written written') →
+      Tells status written'
+  tells_line status written' line is wrote_all front = record {
+    answered = λ answer. ((wrote_all answer).0, subst (Appends written written') is (wrote_all answer).1);
+    stopped = λ accident. subst (λ text. WroteFront text written written') is (front accident);
+  }
+
   told_all : (status : Status) (written' : Option (List ℕ)) → Tells status written' → IsAnswer status → Gave too_long status written written'
   told_all status written' tells answer =
       let all : (status ≡ TooLong) × Appends written written' too_long.text = tells.answered answer in
       record { wrote = all.1; ended = ap Some (sym all.0) }
 
-  pub limit_answers : (status : Status) (written' : Option (List ℕ)) → room ≡ 0 → Tells status written' → IsAnswer status → (bytes : List ℕ) →
-      left0 ≡ Some bytes → Gave (gives turn limit start bytes) status written0 written'
-  limit_answers status written' none tells answer bytes known =
+  pub limit_answers : (status : Status) (written' : Option (List ℕ)) → room ≡ 0 → {line : List ℕ} → line ≡ too_long.text →
+      (IsAnswer status → (status ≡ TooLong) × Appends written written' line) → ((IsAnswer status → ⊥) → WroteFront line written written') →
+      IsAnswer status → (bytes : List ℕ) → left0 ≡ Some bytes → Gave (gives turn limit start bytes) status written0 written'
+  limit_answers status written' none {line} is wrote_all front answer bytes known =
+      let tells : Tells status written' = tells_line status written' line is wrote_all front in
       let all : Took bytes was.taken left = took left0 left was.taken bytes was.consumed known in
       gave_after was.front too_long (gives turn limit start bytes) status written0 written written' was.wrote
       (ap (gives turn limit start) all.split ∙ given_limit all.rest ended none) (told_all status written' tells answer)
 
-  pub limit_leaves : (status : Status) (written' : Option (List ℕ)) → room ≡ 0 → Tells status written' → status ≢ ReadFault → (bytes : List ℕ) →
-      left0 ≡ Some bytes → Leaves turn limit start bytes status left written0 written'
-  limit_leaves status written' none tells unfailed bytes known =
+  pub limit_leaves : {keeps : S → S → Type 0} {final : S} (status : Status) (written' : Option (List ℕ)) → room ≡ 0 →
+      {line : List ℕ} → line ≡ too_long.text →
+      (IsAnswer status → (status ≡ TooLong) × Appends written written' line) → ((IsAnswer status → ⊥) → WroteFront line written written') →
+      status ≢ ReadFault → (bytes : List ℕ) → left0 ≡ Some bytes → Leaves turn keeps limit start bytes status final left written0 written'
+  limit_leaves {keeps} {final} status written' none {line} is wrote_all front unfailed bytes known =
+      let tells : Tells status written' = tells_line status written' line is wrote_all front in
       let all : Took bytes was.taken left = took left0 left was.taken bytes was.consumed known in
       leave [] all.rest bytes status left written' too_long (all.split ∙ ap (λ t. t ++ all.rest) (sym (append-nil was.taken))) all.told
       (omega arith) (omega arith) (λ _. none) (given_limit [] (close_at all.rest) none)
       (wrote_front status too_long written written' (told_all status written' tells) tells.stopped) (told_all status written' tells)
       (λ fault. absurd (unfailed fault))
+      (λ done. absurd (never_done status tells.answered done))
 
 -- a count that rose since a later moment rose since an earlier one
 pub rose_since : (start before now : ℕ) → start ≤ before → Rose before now → Rose start now
 rose_since start before now later rose = omega (arith, rose)
+
+-- so does what came of a later moment
+pub cause_since : (status : Status) (source before now sink sink' sink'' : ℕ) → source ≤ before → sink ≤ sink' →
+    HasCause status before now sink' sink'' → HasCause status source now sink sink''
+cause_since status source before now sink sink' sink'' later sink_later cause = record {
+  source_count = omega (arith, later, cause.source_count);
+  sink_count = omega (arith, sink_later, cause.sink_count);
+  read_fault = λ fault. rose_since source before now later (cause.read_fault fault);
+  write_fault = λ fault. rose_since sink sink' sink'' sink_later (cause.write_fault fault);
+}
+
+pub sink_cause_since : (status : Status) (source now sink before sink' : ℕ) → source ≤ now → sink ≤ before →
+    HasSinkCause status before sink' → HasCause status source now sink sink'
+sink_cause_since status source now sink before sink' later sink_later cause = record {
+  source_count = later;
+  sink_count = omega (arith, sink_later, cause.count);
+  read_fault = λ fault. absurd (cause.no_read_fault fault);
+  write_fault = λ fault. rose_since sink before sink' sink_later (cause.write_fault fault);
+}
 
 -- where no call failed, an answer or want of memory is left
 pub exact_status : (status : Status) (found : Option Status) → (IsAnswer status → found ≡ Some status) → status ≢ ReadFault → status ≢ WriteFault →

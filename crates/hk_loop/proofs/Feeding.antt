@@ -1,8 +1,8 @@
 -- What a piece gives, part by part.
-use Rattle.std.proofs.Common.{◌≡◌, ℕ, ◌+◌, ◌<◌, ◌≤◌, nat_le, false, if◌then◌else◌, List, [], ◌++◌, length, take, drop, Option, None, sym, ap, subst, ◌∙◌, inl, inr, arith, append_assoc}
+use Rattle.std.proofs.Common.{◌≡◌, ℕ, ◌+◌, ◌<◌, ◌≤◌, nat_le, false, if◌then◌else◌, List, [], ◌++◌, length, take, drop, Option, None, sym, ap, subst, ◌∙◌, inl, inr, arith, append_assoc, length-append, ◌∷◌}
 use Rattle.std.proofs.lemmas.Bool.Decides.{nat_tests}
 use Rattle.std.proofs.lemmas.List.{take-append-drop}
-use Rattle.hk_lines.specs.Cut.{Cut, behind, cut, begun, joined, trim, is_skipped}
+use Rattle.hk_lines.specs.Cut.{Cut, behind, whole, cut, begun, joined, trim, is_skipped}
 use Rattle.hk_lines.specs.Cutting.{Shows, ShowsReady}
 use Rattle.hk_lines.specs.Given.{Close, Given, after, bad, Turn, given_line, given_from, after_turn}
 use Rattle.hk_lines.specs.Numbers.{longest_line, endless_line}
@@ -13,7 +13,8 @@ use Rattle.hk_lines.proofs.CutLemmas.{cut_joined, begun_joined, begun_nothing, j
 use Rattle.hk_lines.proofs.Due.{endless}
 use Rattle.std.specs.Io.KnownBytes.{Appends}
 use Rattle.hk_loop.specs.Answers.{WroteFront}
-use Rattle.hk_loop.specs.Turned.{led}
+use Rattle.hk_lines.specs.Reached.{state_after, state_line, state_last, state_from}
+use Rattle.hk_loop.specs.Turned.{led, LeadsOn}
 
 -- held bytes and what comes behind them, where so many bytes of a piece are taken
 fed : (held piece now : List ℕ) (count : ℕ) (more : Cut) → cut held ≡ behind held → now ≡ held ++ take count piece →
@@ -37,6 +38,14 @@ module _ {S : Type 0} (turn : S → List ℕ → Turn S) where
       ≡ after out (given_from turn state number (begun now (joined (cut (drop count piece)) more)) close)
   part_unready state number held piece now count out uncut_held is uncut_now more close =
       ap (λ c. after out (given_from turn state number c close))
+      (fed held piece now count more uncut_held is ∙ ap (λ c. joined c (joined (cut (drop count piece)) more)) uncut_now)
+
+  pub reaches_unready : (state : S) (held piece now : List ℕ) (count : ℕ) → cut held ≡ behind held →
+      now ≡ held ++ take count piece → cut now ≡ behind now → (more : Cut) →
+      state_from turn state (begun held (joined (cut piece) more))
+      ≡ state_from turn state (begun now (joined (cut (drop count piece)) more))
+  reaches_unready state held piece now count uncut_held is uncut_now more =
+      ap (state_from turn state)
       (fed held piece now count more uncut_held is ∙ ap (λ c. joined c (joined (cut (drop count piece)) more)) uncut_now)
 
   -- what a line that was taken gives
@@ -75,11 +84,61 @@ module _ {S : Type 0} (turn : S → List ℕ → Turn S) where
       ∙ ap (after out) (endless turn state number now rest close reached ∙ sym (too_long_line state number now goes long))
       ∙ takes.given now shows goes
 
+  -- what a line that was taken leads to
+  pub record Reaches (keeps : S → S → Type 0) (state : S) (shown : CutLine) (stop : Option Status) (next : S) : Type 0 where
+    pub reached : (raw : List ℕ) → Shows raw shown → (later : S → S) →
+        LeadsOn keeps stop (state_line turn state (trim raw) later) (later next) next
+
+  -- a line that is too long leads no further
+  long_line : (state : S) (bytes : List ℕ) (later : S → S) → longest_line < length (trim bytes) →
+      state_line turn state (trim bytes) later ≡ state
+  long_line state bytes later long =
+      let test : nat_le (length (trim bytes)) longest_line ≡ false = grind (arith, nat_tests) in
+      ap (λ t. if t then (if is_skipped (trim bytes) then later state else state_after turn state (turn state (trim bytes)) later) else state) test
+
+  -- nor do so many bytes
+  endless_leads : (state : S) (bytes : List ℕ) (more : Cut) → endless_line ≤ length bytes → state_from turn state (begun bytes more) ≡ state
+  endless_leads state bytes (whole line more) long =
+      let trimmed : length (bytes ++ line) ≤ length (trim (bytes ++ line)) + 1 = trim_length (bytes ++ line) in
+      long_line state (bytes ++ line) (λ next. state_from turn next more) (omega (arith, trimmed, long, length-append bytes line))
+  endless_leads state bytes (behind rest) long = last (bytes ++ rest) (omega (arith, long, length-append bytes rest)) where
+    last : (all : List ℕ) → endless_line ≤ length all → state_last turn state all ≡ state
+    last [] many = absurd (omega (arith, many))
+    last (byte ∷ all) many =
+        let trimmed : length (byte ∷ all) ≤ length (trim (byte ∷ all)) + 1 = trim_length (byte ∷ all) in
+        long_line state (byte ∷ all) (λ next. next) (omega (arith, trimmed, many))
+
+  pub reaches_ready : (keeps : S → S → Type 0) (state next : S) (held piece now : List ℕ) (count : ℕ) (shown : CutLine) (stop : Option Status) →
+      cut held ≡ behind held → now ≡ held ++ take count piece → ShowsReady now shown → Reaches keeps state shown stop next → (more : Cut) →
+      LeadsOn keeps stop (state_from turn state (begun held (joined (cut piece) more)))
+      (state_from turn next (begun [] (joined (cut (drop count piece)) more))) next
+  reaches_ready keeps state next held piece now count shown stop uncut_held is (inl (line, cuts, shows)) reaches more =
+      let rest : Cut = joined (cut (drop count piece)) more in
+      let same : begun held (joined (cut piece) more) ≡ joined (whole line (behind [])) rest =
+      fed held piece now count more uncut_held is ∙ ap (λ c. joined c rest) cuts.0 in
+      subst (λ c. LeadsOn keeps stop (state_from turn state c) (state_from turn next (begun [] rest)) next) (sym same)
+      (reaches.reached line shows (λ s. state_from turn s (begun [] rest)))
+  reaches_ready keeps state next held piece now count shown stop uncut_held is (inr (all, too_long)) reaches more =
+      let rest : Cut = joined (cut (drop count piece)) more in
+      let trimmed : length now ≤ length (trim now) + 1 = trim_length now in
+      let size : length now ≡ endless_line = all.1 in
+      let long : longest_line < length (trim now) = omega (arith, trimmed, size) in
+      let shows : Shows now shown = subst (Shows now) (sym too_long) long in
+      let later : S → S = λ s. state_from turn s (begun [] rest) in
+      let many : endless_line ≤ length now = omega (arith, size) in
+      let same : begun held (joined (cut piece) more) ≡ begun now rest =
+      fed held piece now count more uncut_held is ∙ ap (λ c. joined c rest) all.0 in
+      let led_to : state_from turn state (begun held (joined (cut piece) more)) ≡ state_line turn state (trim now) later =
+      ap (state_from turn state) same ∙ endless_leads state now rest many ∙ sym (long_line state now later long) in
+      subst (λ s. LeadsOn keeps stop s (later next) next) (sym led_to) (reaches.reached now shows later)
+
   -- what a front of a piece gave, and what is left of it
   pub record Leads (state : S) (number : ℕ) (held out piece : List ℕ) (state' : S) (number' : ℕ) (held' out' piece' : List ℕ) : Type 0 where
     pub given : (more : Cut) (close : Close) →
         after out (given_from turn state number (begun held (joined (cut piece) more)) close)
         ≡ after out' (given_from turn state' number' (begun held' (joined (cut piece') more)) close)
+    pub reached : (more : Cut) →
+        state_from turn state (begun held (joined (cut piece) more)) ≡ state_from turn state' (begun held' (joined (cut piece') more))
 
   -- nothing is left of a piece
   pub leads_end : (state : S) (number : ℕ) (held out piece : List ℕ) (state' : S) (number' : ℕ) (held' out' piece' : List ℕ) →

@@ -4,6 +4,7 @@ use Rattle.std.specs.Io.KnownBytes.{Consumes, Appends}
 use Rattle.hk_lines.specs.Cut.{Cut, cut, begun, joined}
 use Rattle.hk_lines.specs.Cutting.{IsUnfinished}
 use Rattle.hk_lines.specs.Given.{Close, Given, after, Turn, given_from}
+use Rattle.hk_lines.specs.Reached.{state_from}
 use Rattle.hk_lines.proofs.CutLemmas.{cut_joined, joined_joined}
 use Rattle.hk_loop.specs.Going.{GoesOn}
 use Rattle.hk_loop.proofs.Moves.{takes_none, takes_more, writes_none, writes_more}
@@ -24,6 +25,7 @@ module _ {S : Type 0} (turn : S → List ℕ → Turn S) where
     pub numbered : number ≤ length taken + 1
     pub given : (more : Cut) (close : Close) →
         given_from turn start 1 (joined (cut taken) more) close ≡ after front (given_from turn state number (begun held more) close)
+    pub reached : (more : Cut) → state_from turn start (joined (cut taken) more) ≡ state_from turn state (begun held more)
 
   -- nothing was taken
   pub going_start : (limit : ℕ) (start : S) (left written : Option (List ℕ)) → Going limit limit start start 1 [] left left written written
@@ -36,6 +38,7 @@ module _ {S : Type 0} (turn : S → List ℕ → Turn S) where
     unfinished = (refl, omega arith);
     numbered = omega arith;
     given = λ more close. refl;
+    reached = λ more. refl;
   }
 
   -- one read more
@@ -58,4 +61,9 @@ module _ {S : Type 0} (turn : S → List ℕ → Turn S) where
         ∙ was.given (joined (cut goes.taken) more) close
         ∙ ap (after was.front) (goes.went.given more close)
         ∙ after_after was.front goes.went.text (given_from turn next number' (begun held' more) close);
+    reached = λ more.
+        ap (λ c. state_from turn start (joined c more)) (cut_joined was.taken goes.taken)
+        ∙ ap (state_from turn start) (joined_joined (cut was.taken) (cut goes.taken) more)
+        ∙ was.reached (joined (cut goes.taken) more)
+        ∙ goes.went.reached more;
   }

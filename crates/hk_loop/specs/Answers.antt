@@ -3,7 +3,8 @@ use Rattle.std.specs.Prelude.{◌≡◌, ◌≢◌, ◌++◌, ℕ, List, Option,
 use Rattle.std.specs.Io.KnownBytes.{Appends}
 use Rattle.hk_lines.specs.Given.{Given}
 use Rattle.hk_lines.specs.declared.status.Status.{Status}
-use Rattle.hk_lines.specs.declared.status.Status.TheVariants.{Done, Usage, BadInput, ReadFault, WriteFault, NoMemory, HookRefused, TooLong}
+use Rattle.hk_lines.specs.declared.status.Status.TheVariants.{Done, Usage, BadInput, ReadFault, WriteFault, NoMemory}
+use Rattle.hk_lines.specs.declared.status.Status.TheVariants.{HookRefused, TooLong}
 
 abbrev pub IsAnswer : Status → Type 0
 IsAnswer Done = Unit {0}
@@ -15,7 +16,8 @@ IsAnswer ReadFault = ⊥
 IsAnswer WriteFault = ⊥
 IsAnswer NoMemory = ⊥
 
--- statuses with which a line ends a command: that the input is too long, or that the words are no command, isn't for a line to say
+-- statuses with which a line ends a command: that the input is too long, or that the words are no command, isn't for a
+-- line to say
 abbrev pub IsEnd : Status → Type 0
 IsEnd status = IsAnswer status × (status ≢ TooLong) × (status ≢ Usage)
 

@@ -1,4 +1,5 @@
 pub mod Answers
+pub mod Causes
 pub mod Turned
 pub mod Going
 pub mod Through

@@ -3,10 +3,11 @@ ghost use Rattle.std.specs.Prelude.{◌≡◌, ◌≢◌, ◌≤◌, ◌<◌, �
 ghost use Rattle.std.specs.Io.KnownBytes.{Consumes, IsAtEnd, Keeps};
 ghost use Rattle.hk_base.specs.Outside.{Rose};
 ghost use Rattle.hk_lines.specs.Cutting.{IsUnfinished};
+ghost use Rattle.hk_loop.specs.Causes.{HasCause};
 ghost use Rattle.hk_loop.specs.Going.{GoesOn, StopsAt};
 
 use crate::Command;
-use crate::pieces::{take_end, write_piece};
+use crate::pieces::{finish, run_piece};
 use hk_base::{Failed, Sink, Source};
 use hk_lines::{Cutter, Status};
 use std::alloc::Global;
@@ -14,9 +15,9 @@ use std::alloc::Global;
 /// The most bytes that one read takes.
 const PIECE: usize = 4096;
 
-/// Reads once, takes the bytes and writes what their lines print; the answer is how many bytes there were, at least one. An
-/// error is the status where the command or its input ends, or what stopped it.
-pub(crate) fn take_next<C: Command, S: Source, K: Sink>(
+/// Reads once, takes the bytes and writes what their lines print; the answer is how many bytes there were, at least
+/// one. An error is the status where the command or its input ends, or what stopped it.
+pub(crate) fn read_piece<C: Command, S: Source, K: Sink>(
     alloc: Global,
     room: usize,
     command: &mut C,
@@ -28,32 +29,33 @@ pub(crate) fn take_next<C: Command, S: Source, K: Sink>(
     requires some { 0 < room }
     requires unfinished { IsUnfinished cutter.old }
     requires fits { number.old < 2 ^ 62 }
-    ensures goes { IfOk result (λ count. GoesOn C.turn count room command.old number.old cutter.old (S.left source.old) (K.written sink.old)
+    ensures goes { IfOk result (λ count. GoesOn C.turn count room
+        command.old number.old cutter.old (S.left source.old) (K.written sink.old)
         command.new number.new cutter.new (S.left source.new) (K.written sink.new)) }
-    ensures stops { IfErr result (λ status. StopsAt C.turn status room command.old number.old cutter.old (S.left source.old) (K.written sink.old)
-        (S.left source.new) (K.written sink.new)) }
+    ensures stops { IfErr result (λ status. StopsAt C.turn C.keeps status room command.old number.old cutter.old
+        (S.left source.old) (K.written sink.old) command.new (S.left source.new) (K.written sink.new)) }
     ensures no_usage { IfErr result (λ status. status ≢ Status.Usage) }
-    ensures read_fault { IfErr result (λ status. status ≡ Status.ReadFault → Rose (S.faults source.old) (S.faults source.new)) }
-    ensures write_fault { IfErr result (λ status. status ≡ Status.WriteFault → Rose (K.faults sink.old) (K.faults sink.new)) }
     ensures source_count { S.faults source.old ≤ S.faults source.new }
     ensures sink_count { K.faults sink.old ≤ K.faults sink.new }
+    ensures cause { IfErr result (λ status.
+        HasCause status (S.faults source.old) (S.faults source.new) (K.faults sink.old) (K.faults sink.new)) }
 {
     let mut buffer = [0; PIECE];
-    let count = match read_piece(source, &mut buffer, room) {
+    let count = match read_some(source, &mut buffer, room) {
         Ok(count) => count,
         Err(Failed) => return Err(Status::ReadFault),
     };
     if count == 0 {
-        return Err(take_end(alloc, command, cutter, *number, sink));
+        return Err(finish(alloc, command, cutter, *number, sink));
     }
-    match write_piece(alloc, command, cutter, number, &buffer[..count], sink) {
+    match run_piece(alloc, command, cutter, number, &buffer[..count], sink) {
         Ok(()) => Ok(count),
         Err(status) => Err(status),
     }
 }
 
 // Reads at most so many bytes into the front of the buffer.
-fn read_piece<S: Source>(source: &mut S, buffer: &mut [u8], most: usize) -> Result<usize, Failed>
+fn read_some<S: Source>(source: &mut S, buffer: &mut [u8], most: usize) -> Result<usize, Failed>
     requires some { 0 < most }
     requires room { 0 < length buffer.old }
     ensures most { IfOk result (λ count. count ≤ most) }

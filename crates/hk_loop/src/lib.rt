@@ -3,13 +3,14 @@
 
 mod command;
 mod going;
+mod lines;
 mod pieces;
-mod taking;
 #[cfg(test)]
 mod tests;
 mod through;
 mod writing;
 
-pub use command::{Command, Turned};
+pub use command::Command;
+pub use hk_lines::Turned;
 pub use through::go_through;
 pub use writing::{write_all, write_answer};

@@ -1,14 +1,15 @@
-//! One piece is taken.
+//! The lines of one piece are run.
 ghost use Rattle.std.specs.Prelude.{◌≡◌, ◌≢◌, ◌+◌, ◌<◌, ◌≤◌, ◌^◌, length, drop, IfOk, IfErr, OnOk};
-ghost use Rattle.hk_base.specs.Outside.{Rose};
 ghost use Rattle.hk_lines.specs.Cut.{Cut, behind, cut, begun, joined};
 ghost use Rattle.hk_lines.specs.Cutting.{IsUnfinished};
 ghost use Rattle.hk_lines.specs.Given.{Close, ended, after, given_from};
 ghost use Rattle.hk_loop.specs.Answers.{IsAnswer, WroteFront, Gave};
-ghost use Rattle.hk_loop.specs.Turned.{Went, led, StopsWell};
+ghost use Rattle.hk_lines.specs.Reached.{state_last, state_from};
+ghost use Rattle.hk_loop.specs.Causes.{HasSinkCause};
+ghost use Rattle.hk_loop.specs.Turned.{Went, led, LeadsOn, StopsWell};
 
 use crate::Command;
-use crate::taking::{take_line, take_rest};
+use crate::lines::{run_line, run_rest};
 use crate::writing::{write_all, write_answer};
 use hk_base::{NoMemory, Sink, SinkStop};
 use hk_lines::{Cutter, Status};
@@ -21,8 +22,9 @@ pub(crate) struct Part {
     pub(crate) stop: Option<Status>,
 }
 
-/// Takes a piece and writes what its lines print. An error is the status where the command ends or what stopped it.
-pub(crate) fn write_piece<C: Command, K: Sink>(
+/// Runs the lines of a piece and writes what they print. An error is the status where the command ends or what stopped
+/// it.
+pub(crate) fn run_piece<C: Command, K: Sink>(
     alloc: Global,
     command: &mut C,
     cutter: &mut Cutter,
@@ -46,16 +48,18 @@ pub(crate) fn write_piece<C: Command, K: Sink>(
 
     // After a fault or want of memory what was written is the front of what is given.
     ensures stopped { IfErr result (λ status. ¬ IsAnswer status → (more : Cut) (close : Close) →
-        WroteFront (given_from C.turn command.old number.old (begun cutter.old (joined (cut piece.now) more)) close).text
+        WroteFront
+        (given_from C.turn command.old number.old (begun cutter.old (joined (cut piece.now) more)) close).text
         (K.written sink.old) (K.written sink.new)) }
+    ensures kept { IfErr result (λ status. status ≡ Status.Done → (more : Cut) →
+        C.keeps (state_from C.turn command.old (begun cutter.old (joined (cut piece.now) more))) command.new) }
     ensures not_full { IfErr result (λ status. status ≢ Status.TooLong) }
-    ensures no_read_fault { IfErr result (λ status. status ≢ Status.ReadFault) }
     ensures no_usage { IfErr result (λ status. status ≢ Status.Usage) }
-    ensures write_fault { IfErr result (λ status. status ≡ Status.WriteFault → Rose (K.faults sink.old) (K.faults sink.new)) }
-    ensures later { K.faults sink.old ≤ K.faults sink.new }
+    ensures count { K.faults sink.old ≤ K.faults sink.new }
+    ensures cause { IfErr result (λ status. HasSinkCause status (K.faults sink.old) (K.faults sink.new)) }
 {
     let mut out = Vec::new(alloc);
-    match take_piece(alloc, command, cutter, number, piece, &mut out) {
+    match feed_piece(alloc, command, cutter, number, piece, &mut out) {
         Err(_) => Err(Status::NoMemory),
         Ok(None) => match write_all(sink, &out) {
             Ok(()) => Ok(()),
@@ -66,8 +70,9 @@ pub(crate) fn write_piece<C: Command, K: Sink>(
     }
 }
 
-/// Takes what is left at the end of the input and writes what it prints. The answer is the status of all, or what stopped it.
-pub(crate) fn take_end<C: Command, K: Sink>(
+/// Runs what is left at the end of the input and writes what it prints. The answer is the status of all, or what
+/// stopped it.
+pub(crate) fn finish<C: Command, K: Sink>(
     alloc: Global,
     command: &mut C,
     cutter: &Cutter,
@@ -77,24 +82,25 @@ pub(crate) fn take_end<C: Command, K: Sink>(
     requires unfinished { IsUnfinished cutter.now }
     requires fits { number < 2 ^ 63 }
     ensures answered { IsAnswer result →
-        Gave (given_from C.turn command.old number (behind cutter.now) ended) result (K.written sink.old) (K.written sink.new) }
+        Gave (given_from C.turn command.old number (behind cutter.now) ended) result
+        (K.written sink.old) (K.written sink.new) }
     ensures stopped { ¬ IsAnswer result →
-        WroteFront (given_from C.turn command.old number (behind cutter.now) ended).text (K.written sink.old) (K.written sink.new) }
+        WroteFront (given_from C.turn command.old number (behind cutter.now) ended).text
+        (K.written sink.old) (K.written sink.new) }
+    ensures kept { result ≡ Status.Done → C.keeps (state_last C.turn command.old cutter.now) command.new }
     ensures not_full { result ≢ Status.TooLong }
-    ensures no_read_fault { result ≢ Status.ReadFault }
     ensures no_usage { result ≢ Status.Usage }
-    ensures write_fault { result ≡ Status.WriteFault → Rose (K.faults sink.old) (K.faults sink.new) }
-    ensures later { K.faults sink.old ≤ K.faults sink.new }
+    ensures cause { HasSinkCause result (K.faults sink.old) (K.faults sink.new) }
 {
     let mut out = Vec::new(alloc);
-    match take_rest(alloc, command, number, cutter, &mut out) {
+    match run_rest(alloc, command, number, cutter, &mut out) {
         Ok(status) => write_answer(sink, &out, status),
         Err(_) => Status::NoMemory,
     }
 }
 
-/// Takes a piece and appends what its lines print. The answer is the status where the command ends.
-pub(crate) fn take_piece<C: Command>(
+/// Runs the lines of a piece and appends what they print. The answer is the status where the command ends.
+pub(crate) fn feed_piece<C: Command>(
     alloc: Global,
     command: &mut C,
     cutter: &mut Cutter,
@@ -105,15 +111,19 @@ pub(crate) fn take_piece<C: Command>(
     requires unfinished { IsUnfinished cutter.old }
     requires fits { number.old + length piece.now < 2 ^ 63 }
     ensures given { IfOk result (λ stop. (more : Cut) (close : Close) →
-        after out.old.items (given_from C.turn command.old number.old (begun cutter.old (joined (cut piece.now) more)) close)
+        after out.old.items
+        (given_from C.turn command.old number.old (begun cutter.old (joined (cut piece.now) more)) close)
         ≡ led stop out.new.items (given_from C.turn command.new number.new (begun cutter.new more) close)) }
+    ensures reached { IfOk result (λ stop. (more : Cut) →
+        LeadsOn C.keeps stop (state_from C.turn command.old (begun cutter.old (joined (cut piece.now) more)))
+        (state_from C.turn command.new (begun cutter.new more)) command.new) }
     ensures well { IfOk result (λ stop. StopsWell stop) }
     ensures unfinished { IfOk result (λ stop. stop ≡ None → IsUnfinished cutter.new) }
     ensures number { IfOk result (λ _. number.new ≤ number.old + length piece.now) }
 {
     let mut rest = piece;
     while !rest.is_empty() {
-        let part = take_part(alloc, command, cutter, number, rest, out)?;
+        let part = feed_line(alloc, command, cutter, number, rest, out)?;
         match part.stop {
             None => rest = &rest[part.count..],
             Some(status) => return Ok(Some(status)),
@@ -122,8 +132,8 @@ pub(crate) fn take_piece<C: Command>(
     Ok(None)
 }
 
-// Takes the front of a piece, up to the first line feed, and the line that is whole then.
-fn take_part<C: Command>(
+// Takes the front of a piece, up to the first line feed, and runs the line that is whole then.
+fn feed_line<C: Command>(
     alloc: Global,
     command: &mut C,
     cutter: &mut Cutter,
@@ -135,8 +145,15 @@ fn take_part<C: Command>(
     requires unfinished { IsUnfinished cutter.old }
     requires fits { number.old < 2 ^ 63 }
     ensures given { IfOk result (λ part. (more : Cut) (close : Close) →
-        after out.old.items (given_from C.turn command.old number.old (begun cutter.old (joined (cut piece.now) more)) close)
-        ≡ led part.stop out.new.items (given_from C.turn command.new number.new (begun cutter.new (joined (cut (drop part.count piece.now)) more)) close)) }
+        after out.old.items
+        (given_from C.turn command.old number.old (begun cutter.old (joined (cut piece.now) more)) close)
+        ≡ led part.stop out.new.items
+        (given_from C.turn command.new number.new
+        (begun cutter.new (joined (cut (drop part.count piece.now)) more)) close)) }
+    ensures reached { IfOk result (λ part. (more : Cut) →
+        LeadsOn C.keeps part.stop (state_from C.turn command.old (begun cutter.old (joined (cut piece.now) more)))
+        (state_from C.turn command.new (begun cutter.new (joined (cut (drop part.count piece.now)) more)))
+        command.new) }
     ensures well { IfOk result (λ part. StopsWell part.stop) }
     ensures unfinished { IfOk result (λ part. part.stop ≡ None → IsUnfinished cutter.new) }
     ensures number { IfOk result (λ _. number.new ≤ number.old + 1) }
@@ -146,7 +163,7 @@ fn take_part<C: Command>(
     let count = cutter.feed(piece)?;
     let stop = match cutter.ready() {
         None => return Ok(Part { count, stop: None }),
-        Some(line) => take_line(alloc, command, *number, line, out)?,
+        Some(line) => run_line(alloc, command, *number, line, out)?,
     };
     cutter.next();
     *number += 1;

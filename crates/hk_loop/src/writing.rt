@@ -1,8 +1,9 @@
 //! Writing to a sink.
-ghost use Rattle.std.specs.Prelude.{◌≡◌, ◌≢◌, ◌≤◌, ◌++◌, List, ℕ, OnOk, OnErr, IsErrOf};
+ghost use Rattle.std.specs.Prelude.{◌≡◌, ◌≤◌, ◌++◌, List, ℕ, OnOk, OnErr, IsErrOf};
 ghost use Rattle.std.specs.Io.KnownBytes.{Appends};
 ghost use Rattle.hk_base.specs.Outside.{Rose};
 ghost use Rattle.hk_loop.specs.Answers.{IsAnswer, WroteFront};
+ghost use Rattle.hk_loop.specs.Causes.{HasSinkCause};
 
 use hk_base::{Sink, SinkStop};
 use hk_lines::Status;
@@ -29,9 +30,7 @@ pub fn write_answer<K: Sink>(sink: &mut K, text: &[u8], status: Status) -> Statu
     ensures whole { IsAnswer result → (result ≡ status) × Appends (K.written sink.old) (K.written sink.new) text.now }
     ensures front { ¬ IsAnswer result → WroteFront text.now (K.written sink.old) (K.written sink.new) }
     ensures full { result ≡ Status.TooLong → status ≡ Status.TooLong }
-    ensures no_read_fault { result ≢ Status.ReadFault }
-    ensures write_fault { result ≡ Status.WriteFault → Rose (K.faults sink.old) (K.faults sink.new) }
-    ensures later { K.faults sink.old ≤ K.faults sink.new }
+    ensures cause { HasSinkCause result (K.faults sink.old) (K.faults sink.new) }
 {
     match write_all(sink, text) {
         Ok(()) => status,

@@ -1,5 +1,6 @@
--- The commands are their machines, going through the lines.
-use Rattle.std.proofs.Common.{◌≡◌, ℕ, suc, zero, ◌+◌, Bool, true, false, ◌||◌, not, nat_lt, nat_le, cond, List, [], ◌∷◌, Option, Some, None, is_some, Result, Ok, Err, ap, sym, subst, ◌∙◌, refl, arith}
+-- A replay is its machine, going through the lines.
+use Rattle.std.proofs.Common.{◌≡◌, ℕ, suc, zero, ◌+◌, Bool, true, false, ◌||◌, not, nat_lt, nat_le, cond, List, []}
+use Rattle.std.proofs.Common.{◌∷◌, Option, Some, None, is_some, Result, Ok, Err, ap, sym, subst, ◌∙◌, refl, arith}
 use Rattle.std.specs.Str.{bytes_eq}
 use Rattle.std.specs.FinMap.{get, get-empty, get-insert}
 use Rattle.std.proofs.lemmas.Bool.{ltb-false, leb-false}
@@ -17,82 +18,55 @@ use Rattle.hk_lines.specs.declared.verdict.Verdict.{Verdict}
 use Rattle.hk_lines.specs.declared.output_line.OutputLine.{OutputLine}
 use Rattle.hk_reading.specs.declared.reading.Reading.{Reading}
 use Rattle.hk_reading.specs.declared.reading.Reading.TheVariants as reads
-use Rattle.hk_ledger.specs.declared.entry.Entry.TheVariants as entry
-use Rattle.hk_ledger.specs.declared.key.Key.TheVariants as key
-use Rattle.hk_ledger.specs.Balances.{balances-empty}
-use Rattle.hk_ledger.specs.Conserved.{sum_new}
-use Rattle.hk_ledger.specs.Holdings.{as_holding, holding_at, with_holding}
-use Rattle.hk_ledger.specs.Keys.{key_cmp, keys_total}
-use Rattle.hk_ledger.specs.Ledger.{LedgerValue}
-use Rattle.hk_ledger.specs.Machine.{State, start, step, opening_total, account_rules, ledger_rules, tx_rules, unless_broken, goes}
-use Rattle.hk_ledger.specs.Native.{native}
-use Rattle.hk_ledger.specs.Rows.{first_row, none_applies}
-use Rattle.hk_ledger.specs.Rules.{keeps, fails}
+use Rattle.hk_state.specs.declared.entry.Entry.TheVariants as entry
+use Rattle.hk_state.specs.declared.key.Key.TheVariants as key
+use Rattle.hk_state.specs.Balances.{balances-empty, sum_new}
+use Rattle.hk_state.specs.Holdings.{as_holding, holding_at, with_holding}
+use Rattle.hk_state.specs.Keys.{key_cmp, keys_total}
+use Rattle.hk_state.specs.Ledger.{LedgerValue}
+use Rattle.hk_ledger.specs.Machine.{State, start, step, opening_total, account_rules, ledger_rules, tx_rules}
+use Rattle.hk_ledger.specs.Machine.{unless_broken, goes}
+use Rattle.hk_state.specs.Native.{native}
+use Rattle.hk_base.specs.Rows.{first_row}
+use Rattle.hk_state.specs.Rows.{none_applies}
+use Rattle.hk_state.specs.Rules.{keeps, fails}
 use Rattle.hk_ledger.specs.Transactions.{applied, goes_on, settled, refusal_rows, paid}
 use Rattle.hk_ledger.specs.World.{most_drops, with_account}
-use Rattle.hk_ledger.proofs.Whole.{none_of}
-use Rattle.hk_replay.specs.HookLines.{hook_turn, hook_read, hook_step, hook_ordered, hook_ordered_read, hook_line, hook_machine, HookFolds}
-use Rattle.hk_replay.specs.ReplayLines.{Order, no_lines, is_among, account_faults, ledger_faults, tx_faults, unless_refused, with_opened, ordered, ordered_read, replay_line, right_step, replay_machine, ReplayFolds}
+use Rattle.hk_state.proofs.Told.{is_none}
+use Rattle.hk_replay.specs.ReplayLines.{Order, no_lines, is_among, account_faults, ledger_faults, tx_faults}
+use Rattle.hk_replay.specs.ReplayLines.{unless_refused, with_opened, ordered, ordered_read, replay_line, right_step}
+use Rattle.hk_replay.specs.ReplayLines.{replay_machine, ReplayFolds}
 use Rattle.hk_replay.specs.Replaying.{texts, printed, replay_read, replay_turn}
-use Rattle.hk_replay.specs.Words.{is_hook_line, is_replay_line, read_if}
+use Rattle.hk_lines.specs.Taken.{read_if}
+use Rattle.hk_replay.specs.Words.{is_replay_line}
 use Rattle.hk_replay.proofs.Together.{SameTurn, same_given}
-
--- ---- a hook's lines
-
-abbrev held_if : Bool → List ℕ → Option (List ℕ)
-held_if false code = None
-held_if true code = Some code
-
--- the code that is held
-abbrev Holds : Bool × List ℕ → Option (List ℕ) → Type 0
-Holds p held = held ≡ held_if p.0 p.1
-
-hook_ordered_same : (came : Bool) (code : List ℕ) (line : InputLine) → SameTurn Holds (turned hook_machine code (hook_ordered came line)) (hook_step (held_if came code) line)
-hook_ordered_same false code (Hook more) = (refl, refl)
-hook_ordered_same true code (Hook more) = refl
-hook_ordered_same false code End = refl
-hook_ordered_same true code End = (refl, refl)
-hook_ordered_same false code (Account id balance sequence) = refl
-hook_ordered_same true code (Account id balance sequence) = refl
-hook_ordered_same false code (Ledger seq time last_hash) = refl
-hook_ordered_same true code (Ledger seq time last_hash) = refl
-hook_ordered_same false code (Tx verdict blob) = refl
-hook_ordered_same true code (Tx verdict blob) = refl
-
-hook_read_same : (came : Bool) (code : List ℕ) (answer : Result InputLine LineFault) →
-    SameTurn Holds (turned hook_machine code (hook_ordered_read came answer)) (hook_read (held_if came code) answer)
-hook_read_same came code (Ok line) = hook_ordered_same came code line
-hook_read_same came code (Err fault) = refl
-
-hook_same : (p : Bool × List ℕ) (held : Option (List ℕ)) (line : List ℕ) → Holds p held → SameTurn Holds (turn_of hook_machine hook_line p line) (hook_turn held line)
-hook_same p held line is =
-    subst (λ h. SameTurn Holds (turn_of hook_machine hook_line p line) (hook_turn h line)) (sym is) (hook_read_same p.0 p.1 (read_if (is_hook_line line) line))
-
-pub hook_folds : HookFolds
-hook_folds limit bytes close =
-    sym (same_given Holds (turn_of hook_machine hook_line) hook_turn hook_same limit (false, []) None bytes close refl)
-    ∙ fuses_law hook_line hook_machine limit false [] bytes close
-
--- ---- a replay's lines
 
 -- until a ledger is opened, the ledger's accounts and their total are those of the lines
 record Agrees (order : Order) (s : State) : Type 0 where
   pub seq : order.seq ≡ s.ledger.header.seq
   pub total : order.seq ≡ 0 → order.total ≡ opening_total s.ledger
-  pub accounts : order.seq ≡ 0 → (id : AccountId) → is_among id order.accounts ≡ is_some (holding_at s.ledger.entries id)
+  pub accounts : order.seq ≡ 0 → (id : AccountId) →
+      is_among id order.accounts ≡ is_some (holding_at s.ledger.entries id)
 
 abbrev Goes : Order × State → State → Type 0
 Goes p s = (p.1 ≡ s) × Agrees p.0 s
 
 -- another account among the entries
-among_more : (ledger : LedgerValue) (id : AccountId) (balance sequence : ℕ) (ids : List AccountId) (other : AccountId) →
+among_more : (ledger : LedgerValue) (id : AccountId) (balance sequence : ℕ) (ids : List AccountId)
+    (other : AccountId) →
     is_among other ids ≡ is_some (holding_at ledger.entries other) →
     is_among other (id ∷ ids) ≡ is_some (holding_at (with_holding ledger.entries id balance sequence) other)
 among_more ledger id balance sequence ids other is =
-    sym (ap (λ found. is_some (as_holding found)) (get-insert keys_total ledger.entries (key.Account id) (entry.Account balance sequence) (key.Account other))
-    ∙ ap (λ b. is_some (as_holding (cond b (Some (entry.Account balance sequence)) (get ledger.entries (key.Account other))))) (is_eq-slice_cmp other.0 id.0)
+    sym (ap (λ found. is_some (as_holding found))
+    (get-insert keys_total ledger.entries (key.Account id) (entry.Account balance sequence) (key.Account other))
+    ∙ ap
+    (λ b.
+    is_some (as_holding (cond b (Some (entry.Account balance sequence)) (get ledger.entries (key.Account other)))))
+    (is_eq-slice_cmp other.0 id.0)
     ∙ of (bytes_eq other.0 id.0)) where
-      of : (b : Bool) → is_some (as_holding (cond b (Some (entry.Account balance sequence)) (get ledger.entries (key.Account other)))) ≡ (b || is_among other ids)
+      of : (b : Bool) → is_some
+          (as_holding (cond b (Some (entry.Account balance sequence)) (get ledger.entries (key.Account other)))) ≡
+          (b || is_among other ids)
       of true = refl
       of false = sym is
 
@@ -111,25 +85,38 @@ same_fault false was has low high h k =
 same_account_fault : (order : Order) (s : State) (id : AccountId) (balance : ℕ) → Agrees order s →
     first_row (account_faults order id balance) ≡ first_row (account_rules s.ledger id balance)
 same_account_fault order s id balance a =
-    same_fault (nat_lt 0 order.seq) (is_among id order.accounts) (is_some (holding_at s.ledger.entries id)) (order.total + balance) (opening_total s.ledger + balance)
-    (λ none. a.accounts (no_ledger order.seq none) id) (λ none. ap (λ n. n + balance) (a.total (no_ledger order.seq none)))
-    ∙ ap (λ n. first_row ((nat_lt 0 n, BadOrder) ∷ (is_some (holding_at s.ledger.entries id), RepeatedAccount) ∷ (nat_lt most_drops (opening_total s.ledger + balance), Total) ∷ [])) a.seq
+    same_fault (nat_lt 0 order.seq) (is_among id order.accounts) (is_some (holding_at s.ledger.entries id))
+    (order.total + balance) (opening_total s.ledger + balance)
+    (λ none. a.accounts (no_ledger order.seq none) id)
+    (λ none. ap (λ n. n + balance) (a.total (no_ledger order.seq none)))
+    ∙ ap (λ n.
+    first_row ((nat_lt 0 n, BadOrder)
+    ∷ (is_some (holding_at s.ledger.entries id), RepeatedAccount)
+    ∷ (nat_lt most_drops (opening_total s.ledger + balance), Total)
+    ∷ [])) a.seq
 
 -- a line that is refused by the order is wrong for the machine, and else both go on
-same_unless : (found broken : Option Rule) (s : State) (order : Order) (line : InputLine) (next : State) (shown : List OutputLine) → found ≡ broken →
+same_unless : (found broken : Option Rule) (s : State) (order : Order) (line : InputLine) (next : State)
+    (shown : List OutputLine) → found ≡ broken →
     right_step s line ≡ (next, shown) → (broken ≡ None → Agrees order next) →
-    SameTurn Goes (turned replay_machine s (unless_refused found (takes order line))) (printed (unless_broken broken (goes next shown)))
+    SameTurn Goes (turned replay_machine s (unless_refused found (takes order line)))
+    (printed (unless_broken broken (goes next shown)))
 same_unless found broken s order line next shown same does h =
-    subst (λ f. SameTurn Goes (turned replay_machine s (unless_refused f (takes order line))) (printed (unless_broken broken (goes next shown)))) (sym same) (of broken h) where
+    subst (λ f.
+    SameTurn Goes (turned replay_machine s (unless_refused f (takes order line)))
+    (printed (unless_broken broken (goes next shown)))) (sym same) (of broken h) where
       of : (broken : Option Rule) → (broken ≡ None → Agrees order next) →
-          SameTurn Goes (turned replay_machine s (unless_refused broken (takes order line))) (printed (unless_broken broken (goes next shown)))
+          SameTurn Goes (turned replay_machine s (unless_refused broken (takes order line)))
+          (printed (unless_broken broken (goes next shown)))
       of None h = ((ap (λ d. d.0) does, h refl), ap (λ d. texts d.1) does)
       of (Some rule) h = refl
 
-account_agrees : (order : Order) (s : State) (id : AccountId) (balance sequence : ℕ) → Agrees order s → first_row (account_rules s.ledger id balance) ≡ None →
+account_agrees : (order : Order) (s : State) (id : AccountId) (balance sequence : ℕ) → Agrees order s →
+    first_row (account_rules s.ledger id balance) ≡ None →
     Agrees (with_opened order id balance) (record s { ledger = with_account s.ledger id balance sequence })
 account_agrees order s id balance sequence a right =
-    let absent = none_of (holding_at s.ledger.entries id) (none_applies (account_rules s.ledger id balance) right).1.0 in
+    let absent =
+    is_none (holding_at s.ledger.entries id) (none_applies (account_rules s.ledger id balance) right).1.0 in
     let sum = sum_new s.ledger.entries id balance sequence absent in
     record {
       seq = a.seq;
@@ -139,19 +126,23 @@ account_agrees order s id balance sequence a right =
 
 -- no ledger has sequence 0
 opened_seq : (seq old : ℕ) → first_row ((nat_le seq old, BadOrder) ∷ []) ≡ None → seq ≡ 0 → ⊥
-opened_seq seq old h is = let above = leb-false seq old (none_applies ((nat_le seq old, BadOrder) ∷ []) h).0 in omega (arith, above, is)
+opened_seq seq old h is =
+    let above = leb-false seq old (none_applies ((nat_le seq old, BadOrder) ∷ []) h).0 in omega (arith, above, is)
 
 -- a transaction keeps the header
-applied_header : (ledger : LedgerValue) (verdict : Verdict) (read : Reading) → (applied native ledger verdict read).ledger.header ≡ ledger.header
+applied_header : (ledger : LedgerValue) (verdict : Verdict) (read : Reading) →
+    (applied native ledger verdict read).ledger.header ≡ ledger.header
 applied_header ledger verdict reads.TooLong = refl
 applied_header ledger verdict reads.Unparsed = refl
 applied_header ledger verdict reads.Malformed = refl
 applied_header ledger verdict (reads.Transaction t) =
-    elim (first_row (refusal_rows ledger verdict t)) as (λ found. (goes_on native ledger t found).ledger.header ≡ ledger.header) [
-      | None ↦ elim (native ledger.header (paid ledger.entries t) t) as (λ effect. (settled ledger t effect).ledger.header ≡ ledger.header) [
-        | keeps m ↦ refl
-        | fails name ↦ refl
-      ]
+    elim (first_row (refusal_rows ledger verdict t)) as
+    (λ found. (goes_on native ledger t found).ledger.header ≡ ledger.header) [
+      | None ↦ elim (native ledger.header (paid ledger.entries t) t) as
+          (λ effect. (settled ledger t effect).ledger.header ≡ ledger.header) [
+            | keeps m ↦ refl
+            | fails name ↦ refl
+          ]
       | Some name ↦ refl
     ]
 
@@ -159,7 +150,8 @@ in_ledger : (seq : ℕ) → first_row ((not (nat_lt 0 seq), BadOrder) ∷ []) �
 in_ledger zero h is = cc
 in_ledger (suc seq) h is = cc
 
-tx_agrees : (order : Order) (s : State) (verdict : Verdict) (read : Reading) (count : ℕ) → Agrees order s → first_row (tx_rules s.ledger) ≡ None →
+tx_agrees : (order : Order) (s : State) (verdict : Verdict) (read : Reading) (count : ℕ) → Agrees order s →
+    first_row (tx_rules s.ledger) ≡ None →
     Agrees order (record { ledger = (applied native s.ledger verdict read).ledger; count = count })
 tx_agrees order s verdict read count a right =
     let never : order.seq ≡ 0 → ⊥ = λ none. in_ledger s.ledger.header.seq right (sym a.seq ∙ none) in
@@ -169,12 +161,15 @@ tx_agrees order s verdict read count a right =
       accounts = λ none. absurd (never none);
     }
 
-ordered_same : (order : Order) (s : State) (line : InputLine) → Agrees order s → SameTurn Goes (turned replay_machine s (ordered order line)) (printed (step native s line))
+ordered_same : (order : Order) (s : State) (line : InputLine) → Agrees order s →
+    SameTurn Goes (turned replay_machine s (ordered order line)) (printed (step native s line))
 ordered_same order s (Account id balance sequence) a =
-    same_unless (first_row (account_faults order id balance)) (first_row (account_rules s.ledger id balance)) s (with_opened order id balance) (Account id balance sequence) _ []
+    same_unless (first_row (account_faults order id balance)) (first_row (account_rules s.ledger id balance)) s
+    (with_opened order id balance) (Account id balance sequence) _ []
     (same_account_fault order s id balance a) refl (account_agrees order s id balance sequence a)
 ordered_same order s (Ledger seq time last_hash) a =
-    same_unless (first_row (ledger_faults order seq)) (first_row (ledger_rules s.ledger seq)) s (record order { seq = seq }) (Ledger seq time last_hash) _ _
+    same_unless (first_row (ledger_faults order seq)) (first_row (ledger_rules s.ledger seq)) s
+    (record order { seq = seq }) (Ledger seq time last_hash) _ _
     (ap (λ n. first_row ((nat_le seq n, BadOrder) ∷ [])) a.seq) refl
     (λ right. record {
       seq = refl;
@@ -193,16 +188,23 @@ read_same : (order : Order) (s : State) (answer : Result InputLine LineFault) �
 read_same order s (Ok line) a = ordered_same order s line a
 read_same order s (Err fault) a = refl
 
-replay_same : (p : Order × State) (s : State) (line : List ℕ) → Goes p s → SameTurn Goes (turn_of replay_machine replay_line p line) (replay_turn s line)
+replay_same : (p : Order × State) (s : State) (line : List ℕ) → Goes p s →
+    SameTurn Goes (turn_of replay_machine replay_line p line) (replay_turn s line)
 replay_same p s line (is, a) =
-    subst (λ x. SameTurn Goes (turned replay_machine x (replay_line p.0 line)) (replay_turn s line)) (sym is) (read_same p.0 s (read_if (is_replay_line line) line) a)
+    subst (λ x. SameTurn Goes (turned replay_machine x (replay_line p.0 line)) (replay_turn s line)) (sym is)
+    (read_same p.0 s (read_if (is_replay_line line) line) a)
 
 start_agrees : Agrees no_lines start
 start_agrees =
     let none = balances-empty in
-    record { seq = refl; total = λ _. omega (arith, none); accounts = λ _ id. ap (λ found. is_some (as_holding found)) (sym (get-empty key_cmp (key.Account id))) }
+    record {
+      seq = refl;
+      total = λ _. omega (arith, none);
+      accounts = λ _ id. ap (λ found. is_some (as_holding found)) (sym (get-empty key_cmp (key.Account id)));
+    }
 
 pub replay_folds : ReplayFolds
 replay_folds limit bytes close =
-    sym (same_given Goes (turn_of replay_machine replay_line) replay_turn replay_same limit (no_lines, start) start bytes close (refl, start_agrees))
+    sym (same_given Goes (turn_of replay_machine replay_line) replay_turn replay_same limit (no_lines, start) start
+    bytes close (refl, start_agrees))
     ∙ fuses_law replay_line replay_machine limit no_lines start bytes close

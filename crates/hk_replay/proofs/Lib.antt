@@ -5,3 +5,6 @@ pub mod Stopping
 pub mod Conserving
 pub mod Together
 pub mod Folding
+pub mod HookFolding
+pub mod Answering
+pub mod Deciding

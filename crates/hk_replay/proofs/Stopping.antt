@@ -1,33 +1,41 @@
 -- What was taken and written when a command answered.
-use Rattle.std.proofs.Common.{◌≡◌, ◌≢◌, ℕ, ◌⊎◌, inl, inr, List, [], ◌++◌, length, Option, Some, None, ap, sym, subst, ◌∙◌, refl, arith, append-nil, length-append}
+use Rattle.std.proofs.Common.{◌≡◌, ◌≢◌, ℕ, ◌⊎◌, inl, inr, List, [], ◌∷◌, ◌++◌, length, Option, Some, None, ap, sym}
+use Rattle.std.proofs.Common.{subst, ◌∙◌, refl, arith, append-nil, length-append}
 use Rattle.std.specs.Io.KnownBytes.{Appends}
 use Rattle.hk_lines.specs.Given.{Close, opened, ended, Given, gives, IsFront}
 use Rattle.hk_lines.specs.Numbers.{longest_input}
+use Rattle.hk_lines.specs.Reached.{reached}
 use Rattle.hk_lines.specs.declared.status.Status.{Status}
-use Rattle.hk_lines.specs.declared.status.Status.TheVariants.{Done, Usage, BadInput, ReadFault, WriteFault, NoMemory, HookRefused, TooLong}
+use Rattle.hk_lines.specs.declared.status.Status.TheVariants.{Done, Usage, BadInput, ReadFault, WriteFault, NoMemory}
+use Rattle.hk_lines.specs.declared.status.Status.TheVariants.{HookRefused, TooLong}
 use Rattle.hk_loop.specs.Answers.{IsAnswer, WroteFront, Gave}
 use Rattle.hk_loop.specs.Through.{close_at, Leaves}
 use Rattle.hk_loop.proofs.Exits.{wrote_front}
-use Rattle.hk_base.specs.Outside.{Rose}
+use Rattle.hk_loop.proofs.Moves.{writes_more}
 use Rattle.hk_ledger.specs.Machine as machine
 use Rattle.hk_replay.specs.declared.command.Command.{Command}
 use Rattle.hk_replay.specs.declared.command.Command.TheVariants.{Hook, Replay, Other}
 use Rattle.hk_replay.specs.declared.command.Question.{Question}
 use Rattle.hk_replay.specs.HookLines.{hook_turn}
+use Rattle.hk_replay.proofs.HookFolding.{IsRight, hook_silent}
 use Rattle.hk_replay.specs.Replaying.{replay_turn}
-use Rattle.hk_replay.specs.Answers.{IsReply, Replies, hook_lines, replay_lines, usage_line}
+use Rattle.hk_replay.specs.Answers.{IsReply, Replies, code_of, hook_code, hook_lines, replay_lines, usage_line}
 use Rattle.hk_replay.specs.Moved.{Answered, RepliesDue, DueFor, WroteDue, Stops, Tells, TellsUsage}
 
 -- ---- replay
 
-pub replay_answered : (start : machine.State) (bytes : List ℕ) (status : Status) (before now : Option (List ℕ)) → start ≡ machine.start →
+pub replay_answered : (start : machine.State) (bytes : List ℕ) (status : Status) (before now : Option (List ℕ)) →
+    start ≡ machine.start →
     Gave (gives replay_turn longest_input start bytes) status before now → Answered Replay bytes status before now
 replay_answered start bytes status before now is gave =
-    let g : Gave (replay_lines bytes ended) status before now = subst (λ s. Gave (gives replay_turn longest_input s bytes) status before now) is gave in
+    let g : Gave (replay_lines bytes ended) status before now =
+    subst (λ s. Gave (gives replay_turn longest_input s bytes) status before now) is gave in
     record { text = (replay_lines bytes ended).text; given = (refl, g.ended); wrote = g.wrote }
 
-replay_left : (bytes : List ℕ) (status : Status) (left before now : Option (List ℕ)) →
-    Leaves replay_turn longest_input machine.start bytes status left before now → Stops Replay bytes status left before now
+replay_left : {keeps : machine.State → machine.State → Type 0} {final : machine.State} (bytes : List ℕ)
+    (status : Status) (left before now : Option (List ℕ)) →
+    Leaves replay_turn keeps longest_input machine.start bytes status final left before now →
+    Stops Replay bytes status left before now
 replay_left bytes status left before now l = record {
   taken = l.taken;
   rest = l.rest;
@@ -39,151 +47,183 @@ replay_left bytes status left before now l = record {
   full = l.full;
   due = inr (record { text = (replay_lines l.taken (close_at l.rest)).text; due = refl; is = l.due });
   prompt = λ early late text parts much due. subst (λ t. IsFront t l.front) (sym due) (l.prompt early late parts much);
+  reads_on = l.goes;
 }
 
-pub replay_stops : (start : machine.State) (bytes : List ℕ) (status : Status) (left before now : Option (List ℕ)) → start ≡ machine.start →
-    Leaves replay_turn longest_input start bytes status left before now → Stops Replay bytes status left before now
-replay_stops start bytes status left before now is l =
-    replay_left bytes status left before now (subst (λ s. Leaves replay_turn longest_input s bytes status left before now) is l)
+pub replay_stops : {keeps : machine.State → machine.State → Type 0} {final : machine.State} (start : machine.State)
+    (bytes : List ℕ) (status : Status) (left before now : Option (List ℕ)) → start ≡ machine.start →
+    Leaves replay_turn keeps longest_input start bytes status final left before now →
+    Stops Replay bytes status left before now
+replay_stops {keeps} {final} start bytes status left before now is l =
+    replay_left bytes status left before now
+    (subst (λ s. Leaves replay_turn keeps longest_input s bytes status final left before now) is l)
 
 -- ---- check and run
 
+abbrev pub Keeps : Option (List ℕ) → Option (List ℕ) → Type 0
+Keeps before after = after ≡ before
+
+abbrev hook_leaves : Option (List ℕ) → List ℕ → Status → Option (List ℕ) → (left before now : Option (List ℕ)) → Type 0
+hook_leaves start bytes status final left before now =
+    Leaves hook_turn Keeps longest_input start bytes status final left before now
+
+-- lines that are right have printed nothing
+silent_at : (bytes : List ℕ) (close : Close) (found : Option Status) → IsRight found →
+    (hook_lines bytes close).status ≡ found →
+    (hook_lines bytes close).text ≡ []
+silent_at bytes close found right is = hook_silent longest_input bytes close (subst IsRight (sym is) right)
+
+-- a front of nothing is nothing
+front_nothing : (front text : List ℕ) → IsFront front text → text ≡ [] → front ≡ []
+front_nothing [] text is none = refl
+front_nothing (byte ∷ front) text (more, is) none = let no : [] ≡ byte ∷ (front ++ more) = sym none ∙ is in absurd (cc)
+
 module _ (question : Question) where
-  -- a text that was written to memory
-  shown_text : (text written : List ℕ) → Appends (Some []) (Some written) text → written ≡ text
-  shown_text text written h = h
-
-  -- right lines were answered by their code
-  run_answers : (lines : Given) (code front : List ℕ) (status : Status) → lines.status ≡ Some Done → code ≡ lines.text → IsReply question code front status →
-      Replies question lines.status lines.text front status
-  run_answers lines code front status over is reply =
-      subst (λ found. Replies question found lines.text front status) (sym over) (subst (λ c. IsReply question c front status) is reply)
-
-  pub run_answered : (start : Option (List ℕ)) (bytes code : List ℕ) (status : Status) (before now shown : Option (List ℕ)) → start ≡ None →
-      shown ≡ Some [] → Gave (gives hook_turn longest_input start bytes) Done shown (Some code) → Tells question code status before now → IsAnswer status →
-      Answered (Hook question) bytes status before now
-  run_answered start bytes code status before now shown is empty gave tells answer =
-      let g : Gave (hook_lines bytes ended) Done (Some []) (Some code) =
-      subst (λ k. Gave (hook_lines bytes ended) Done k (Some code)) empty (subst (λ s. Gave (gives hook_turn longest_input s bytes) Done shown (Some code)) is gave) in
-      record {
-        text = tells.front;
-        given = run_answers (hook_lines bytes ended) code tells.front status g.ended (shown_text (hook_lines bytes ended).text code g.wrote) (tells.answered answer);
-        wrote = tells.wrote;
-      }
+  -- a front of what lines give, as a front of what is due
+  due_left : (code shown front : List ℕ) (found : Option Status) → (IsRight found → shown ≡ []) → IsFront front shown →
+      (front ≡ []) ⊎ ((text : List ℕ) × RepliesDue question code found shown text × IsFront front text)
+  due_left code shown front (Some Done) silent is = inl (front_nothing front shown is (silent tt))
+  due_left code shown front None silent is = inl (front_nothing front shown is (silent tt))
+  due_left code shown front (Some other) silent is = inr (shown, refl, is)
 
   -- nothing was due for all but the last bytes
-  nothing_due : (found : Option Status) (shown text front : List ℕ) → found ≡ None → RepliesDue question found shown text → IsFront text front
-  nothing_due None shown text front none due = (front, ap (λ t. t ++ front) (sym due))
-  nothing_due (Some status) shown text front none due = absurd (cc)
+  nothing_due : (code shown text front : List ℕ) (found : Option Status) → found ≡ None →
+      RepliesDue question code found shown text → IsFront text front
+  nothing_due code shown text front None none due = (front, ap (λ t. t ++ front) (sym due))
+  nothing_due code shown text front (Some status) none due = absurd (cc)
 
-  -- what was written of the answer to the lines, or nothing
-  module _ (bytes : List ℕ) (status : Status) (left shown written before now : Option (List ℕ)) (l : Leaves hook_turn longest_input None bytes status left shown written) where
-    run_left : (answer : Status) (front : List ℕ) → Appends before now front → (answer ≡ TooLong → status ≡ TooLong) →
-        (front ≡ []) ⊎ WroteDue (Hook question) l.taken (close_at l.rest) front → Stops (Hook question) bytes answer left before now
-    run_left answer front wrote full due = record {
-      taken = l.taken;
-      rest = l.rest;
-      front = front;
-      split = l.split;
-      told = l.told;
-      wrote = wrote;
-      few = l.few;
-      full = λ long. l.full (full long);
-      due = due;
-      prompt = λ early late text parts much is. nothing_due (hook_lines early opened).status (hook_lines early opened).text text front (l.goes early late parts much) is;
-    }
-
-  -- right lines, and what was written of the answer to their code
-  reply_due : (lines : Given) (code front : List ℕ) → lines.status ≡ Some Done → code ≡ lines.text →
-      (front ≡ []) ⊎ ((text : List ℕ) × (other : Status) × IsReply question code text other × IsFront front text) →
-      (front ≡ []) ⊎ ((text : List ℕ) × RepliesDue question lines.status lines.text text × IsFront front text)
-  reply_due lines code front over is (inl none) = inl none
-  reply_due lines code front over is (inr (text, other, reply, more)) =
-      inr (text, subst (λ found. RepliesDue question found lines.text text) (sym over) (other, subst (λ c. IsReply question c text other) is reply), more)
-
-  no_reply_too_long : (code front : List ℕ) (status : Status) → (IsAnswer status → IsReply question code front status) → status ≡ TooLong → ⊥
-  no_reply_too_long code front status answered is = let r : IsReply question code front TooLong = subst (λ s. IsReply question code front s) is (answered (subst IsAnswer (sym is) tt)) in r
-
-  due_of : (front taken : List ℕ) (close : Close) → (front ≡ []) ⊎ ((text : List ℕ) × DueFor (Hook question) taken close text × IsFront front text) → (front ≡ []) ⊎ WroteDue (Hook question) taken close front
+  due_of : (front taken : List ℕ) (close : Close) →
+      (front ≡ []) ⊎ ((text : List ℕ) × DueFor (Hook question) taken close text × IsFront front text) →
+      (front ≡ []) ⊎ WroteDue (Hook question) taken close front
   due_of front taken close (inl none) = inl none
   due_of front taken close (inr (text, due, is)) = inr (record { text = text; due = due; is = is })
 
-  run_done : (bytes code : List ℕ) (status : Status) (left before now : Option (List ℕ)) → Leaves hook_turn longest_input None bytes Done left (Some []) (Some code) →
-      Tells question code status before now → Stops (Hook question) bytes status left before now
-  run_done bytes code status left before now l tells =
-      let g : Gave (hook_lines l.taken (close_at l.rest)) Done (Some []) (Some code) = l.answered tt in
-      run_left bytes Done left (Some []) (Some code) before now l status tells.front tells.wrote
-      (λ long. absurd (no_reply_too_long code tells.front status tells.answered long))
-      (due_of tells.front l.taken (close_at l.rest)
-      (reply_due (hook_lines l.taken (close_at l.rest)) code tells.front g.ended (shown_text (hook_lines l.taken (close_at l.rest)).text code g.wrote) tells.due))
+  -- what was taken, and what was written of what is due for it
+  left_with : (bytes : List ℕ) (status : Status) (final left before mid : Option (List ℕ))
+      (l : hook_leaves None bytes status final left before mid)
+      (answer : Status) (front : List ℕ) (now : Option (List ℕ)) → Appends before now front →
+      (answer ≡ TooLong → status ≡ TooLong) →
+      (front ≡ []) ⊎ WroteDue (Hook question) l.taken (close_at l.rest) front → Stops
+      (Hook question) bytes answer left before now
+  left_with bytes status final left before mid l answer front now wrote full due = record {
+    taken = l.taken;
+    rest = l.rest;
+    front = front;
+    split = l.split;
+    told = l.told;
+    wrote = wrote;
+    few = l.few;
+    full = λ long. l.full (full long);
+    due = due;
+    prompt = λ early late text parts much is.
+        nothing_due (hook_code early) (hook_lines early opened).text text front (hook_lines early opened).status
+        (l.goes early late parts much) is;
+    reads_on = l.goes;
+  }
 
-  pub run_done_stops : (start : Option (List ℕ)) (bytes code : List ℕ) (status : Status) (left before now shown : Option (List ℕ)) → start ≡ None → shown ≡ Some [] →
-      Leaves hook_turn longest_input start bytes Done left shown (Some code) → Tells question code status before now → Stops (Hook question) bytes status left before now
-  run_done_stops start bytes code status left before now shown none empty l tells =
-      run_done bytes code status left before now
-      (subst (λ k. Leaves hook_turn longest_input None bytes Done left k (Some code)) empty (subst (λ s. Leaves hook_turn longest_input s bytes Done left shown (Some code)) none l)) tells
+  -- ---- where the lines stopped it
 
-  writes_none : (known : Option (List ℕ)) → Appends known known []
-  writes_none None = tt
-  writes_none (Some written) = sym (append-nil written)
+  pub lines_stops : (start : Option (List ℕ)) (bytes : List ℕ) (status : Status)
+      (final left before now : Option (List ℕ)) → start ≡ None →
+      hook_leaves start bytes status final left before now → Stops (Hook question) bytes status left before now
+  lines_stops start bytes status final left before now none leaves =
+      let l : hook_leaves None bytes status final left before now =
+      subst (λ s. hook_leaves s bytes status final left before now) none leaves in
+      let lines : Given = hook_lines l.taken (close_at l.rest) in
+      left_with bytes status final left before now l status l.front now l.wrote (λ long. long)
+      (due_of l.front l.taken (close_at l.rest)
+      (due_left (hook_code l.taken) lines.text l.front lines.status
+      (λ right. hook_silent longest_input l.taken (close_at l.rest) right) l.due))
 
-  -- a fault or want of memory before anything was written
-  pub run_silent : (start : Option (List ℕ)) (bytes : List ℕ) (status : Status) (left before shown written : Option (List ℕ)) → start ≡ None →
-      Leaves hook_turn longest_input start bytes status left shown written → Stops (Hook question) bytes status left before before
-  run_silent start bytes status left before shown written none l =
-      run_left bytes status left shown written before before (subst (λ s. Leaves hook_turn longest_input s bytes status left shown written) none l) status []
-      (writes_none before) (λ long. long) (inl refl)
+  wrong_replies : (code shown : List ℕ) (found : Option Status) (status : Status) → found ≡ Some status →
+      status ≢ Done →
+      Replies question code found shown shown status
+  wrong_replies code shown found status is apart =
+      subst (λ f. Replies question code f shown shown status) (sym is) (of status apart) where
+        of : (status : Status) → status ≢ Done → Replies question code (Some status) shown shown status
+        of Done apart = absurd (apart refl)
+        of other apart = (refl, refl)
 
-  -- wrong lines are answered by what they give
-  other_replies : (found : Option Status) (status : Status) (shown : List ℕ) → found ≡ Some status → status ≢ Done → Replies question found shown shown status
-  other_replies found status shown is apart = subst (λ f. Replies question f shown shown status) (sym is) (of status apart) where
-    of : (status : Status) → status ≢ Done → Replies question (Some status) shown shown status
-    of Done apart = absurd (apart refl)
-    of other apart = (refl, refl)
-
-  other_due : (found : Option Status) (status : Status) (shown : List ℕ) → found ≡ Some status → status ≢ Done → RepliesDue question found shown shown
-  other_due found status shown is apart = subst (λ f. RepliesDue question f shown shown) (sym is) (of status apart) where
-    of : (status : Status) → status ≢ Done → RepliesDue question (Some status) shown shown
-    of Done apart = absurd (apart refl)
-    of other apart = refl
-
-  pub run_other_answered : (start : Option (List ℕ)) (bytes code : List ℕ) (status result : Status) (before now shown : Option (List ℕ)) → start ≡ None →
-      shown ≡ Some [] → status ≢ Done → Gave (gives hook_turn longest_input start bytes) status shown (Some code) → result ≡ status → Appends before now code →
-      Answered (Hook question) bytes result before now
-  run_other_answered start bytes code status result before now shown none empty apart gave is wrote =
-      let g : Gave (hook_lines bytes ended) status (Some []) (Some code) =
-      subst (λ k. Gave (hook_lines bytes ended) status k (Some code)) empty (subst (λ s. Gave (gives hook_turn longest_input s bytes) status shown (Some code)) none gave) in
-      let same : code ≡ (hook_lines bytes ended).text = shown_text (hook_lines bytes ended).text code g.wrote in
+  pub lines_answered : (start : Option (List ℕ)) (bytes : List ℕ) (status : Status) (before now : Option (List ℕ)) →
+      start ≡ None → status ≢ Done →
+      Gave (gives hook_turn longest_input start bytes) status before now → Answered
+      (Hook question) bytes status before now
+  lines_answered start bytes status before now none apart gave =
+      let g : Gave (hook_lines bytes ended) status before now =
+      subst (λ s. Gave (gives hook_turn longest_input s bytes) status before now) none gave in
       record {
         text = (hook_lines bytes ended).text;
-        given = subst (λ s. Replies question (hook_lines bytes ended).status (hook_lines bytes ended).text (hook_lines bytes ended).text s) (sym is)
-            (other_replies (hook_lines bytes ended).status status (hook_lines bytes ended).text g.ended apart);
-        wrote = subst (λ t. Appends before now t) same wrote;
+        given =
+            wrong_replies (hook_code bytes) (hook_lines bytes ended).text
+            (hook_lines bytes ended).status status g.ended apart;
+        wrote = g.wrote;
       }
 
-  run_other : (bytes code : List ℕ) (status result : Status) (left before now : Option (List ℕ)) → IsAnswer status → status ≢ Done →
-      Leaves hook_turn longest_input None bytes status left (Some []) (Some code) → (result ≡ TooLong → status ≡ TooLong) → WroteFront code before now →
-      Stops (Hook question) bytes result left before now
-  run_other bytes code status result left before now answer apart l full w =
-      let lines : Given = hook_lines l.taken (close_at l.rest) in
-      let g : Gave lines status (Some []) (Some code) = l.answered answer in
-      run_left bytes status left (Some []) (Some code) before now l result w.front w.wrote full
-      (inr (record {
-        text = lines.text;
-        due = other_due lines.status status lines.text g.ended apart;
-        is = (w.more, sym (shown_text lines.text code g.wrote) ∙ w.whole);
-      }))
+  -- ---- where they were right, and their code was answered
 
-  pub run_other_stops : (start : Option (List ℕ)) (bytes code : List ℕ) (status result : Status) (left before now shown : Option (List ℕ)) → start ≡ None → shown ≡ Some [] →
-      IsAnswer status → status ≢ Done → Leaves hook_turn longest_input start bytes status left shown (Some code) → (result ≡ TooLong → status ≡ TooLong) →
-      (IsAnswer result → (result ≡ status) × Appends before now code) → ((IsAnswer result → ⊥) → WroteFront code before now) → Stops (Hook question) bytes result left before now
-  run_other_stops start bytes code status result left before now shown none empty answer apart l full whole front =
-      run_other bytes code status result left before now answer apart
-      (subst (λ k. Leaves hook_turn longest_input None bytes status left k (Some code)) empty (subst (λ s. Leaves hook_turn longest_input s bytes status left shown (Some code)) none l)) full
-      (wrote_front result (record { text = code; status = Some result }) before now (λ is. record { wrote = (whole is).1; ended = refl }) front)
+  -- nothing was written before the answer
+  answer_wrote : (shown front : List ℕ) (before mid now : Option (List ℕ)) → shown ≡ [] → Appends before mid shown →
+      Appends mid now front →
+      Appends before now front
+  answer_wrote shown front before mid now none first more =
+      writes_more before mid now [] front (subst (Appends before mid) none first) more
+
+  pub code_answered : (start : Option (List ℕ)) (bytes code : List ℕ) (status : Status)
+      (final before mid now : Option (List ℕ)) → start ≡ None →
+      Gave (gives hook_turn longest_input start bytes) Done before mid →
+      final ≡ reached hook_turn longest_input start bytes → code ≡ code_of final →
+      Tells question code status mid now → IsAnswer status → Answered (Hook question) bytes status before now
+  code_answered start bytes code status final before mid now none gave kept is tells answer =
+      let g : Gave (hook_lines bytes ended) Done before mid =
+      subst (λ s. Gave (gives hook_turn longest_input s bytes) Done before mid) none gave in
+      let same : code ≡ hook_code bytes =
+      is ∙ ap code_of (kept ∙ ap (λ s. reached hook_turn longest_input s bytes) none) in
+      let reply : IsReply question (hook_code bytes) tells.front status =
+      subst (λ c. IsReply question c tells.front status) same (tells.answered answer) in
+      record {
+        text = tells.front;
+        given =
+            subst (λ found. Replies question (hook_code bytes) found (hook_lines bytes ended).text tells.front status)
+            (sym g.ended) reply;
+        wrote =
+            answer_wrote (hook_lines bytes ended).text tells.front before mid now
+            (silent_at bytes ended (Some Done) tt g.ended) g.wrote tells.wrote;
+      }
+
+  no_reply_too_long : (code front : List ℕ) (status : Status) →
+      (IsAnswer status → IsReply question code front status) → status ≡ TooLong → ⊥
+  no_reply_too_long code front status answered is =
+      let r : IsReply question code front TooLong = subst (λ s. IsReply question code front s) is
+      (answered (subst IsAnswer (sym is) tt)) in r
+
+  reply_due : (code known shown front : List ℕ) (found : Option Status) → found ≡ Some Done → code ≡ known →
+      (front ≡ []) ⊎ ((text : List ℕ) × (other : Status) × IsReply question code text other × IsFront front text) →
+      (front ≡ []) ⊎ ((text : List ℕ) × RepliesDue question known found shown text × IsFront front text)
+  reply_due code known shown front found over is (inl none) = inl none
+  reply_due code known shown front found over is (inr (text, other, reply, more)) =
+      let mine = subst (λ c. IsReply question c text other) is reply in
+      inr (text, subst (λ f. RepliesDue question known f shown text) (sym over) (other, mine), more)
+
+  pub code_stops : (start : Option (List ℕ)) (bytes code : List ℕ) (status : Status)
+      (final left before mid now : Option (List ℕ)) → start ≡ None →
+      hook_leaves start bytes Done final left before mid → code ≡ code_of final → Tells question code status mid now →
+      Stops (Hook question) bytes status left before now
+  code_stops start bytes code status final left before mid now none leaves is tells =
+      let l : hook_leaves None bytes Done final left before mid =
+      subst (λ s. hook_leaves s bytes Done final left before mid) none leaves in
+      let lines : Given = hook_lines l.taken (close_at l.rest) in
+      let g : Gave lines Done before mid = l.answered tt in
+      let same : code ≡ hook_code l.taken = is ∙ ap code_of (l.kept refl) in
+      left_with bytes Done final left before mid l status tells.front now
+      (answer_wrote lines.text tells.front before mid now (silent_at l.taken (close_at l.rest) (Some Done) tt g.ended)
+      g.wrote tells.wrote)
+      (λ long. absurd (no_reply_too_long code tells.front status tells.answered long))
+      (due_of tells.front l.taken (close_at l.rest)
+      (reply_due code (hook_code l.taken) lines.text tells.front lines.status g.ended same tells.due))
 
 -- a code's answer was written, or a front of it
-module _ (question : Question) (code text : List ℕ) (status : Status) (before now : Option (List ℕ)) (reply : IsReply question code text status) where
+module _ (question : Question) (code text : List ℕ) (status : Status) (before now : Option (List ℕ))
+    (reply : IsReply question code text status) where
   told_all : (result : Status) → (result ≡ status) × Appends before now text → Tells question code result before now
   told_all result (is, wrote) = record {
     front = text;
@@ -192,7 +232,8 @@ module _ (question : Question) (code text : List ℕ) (status : Status) (before 
     due = inr (text, status, reply, ([], sym (append-nil text)));
   }
 
-  told_front : (result : Status) → (IsAnswer result → ⊥) → WroteFront text before now → Tells question code result before now
+  told_front : (result : Status) → (IsAnswer result → ⊥) → WroteFront text before now →
+      Tells question code result before now
   told_front result none w = record {
     front = w.front;
     wrote = w.wrote;
@@ -200,7 +241,8 @@ module _ (question : Question) (code text : List ℕ) (status : Status) (before 
     due = inr (text, status, reply, (w.more, w.whole));
   }
 
-  pub told : (result : Status) → (IsAnswer result → (result ≡ status) × Appends before now text) → ((IsAnswer result → ⊥) → WroteFront text before now) → Tells question code result before now
+  pub told : (result : Status) → (IsAnswer result → (result ≡ status) × Appends before now text) →
+      ((IsAnswer result → ⊥) → WroteFront text before now) → Tells question code result before now
   told ReadFault whole front = told_front ReadFault (λ a. a) (front (λ a. a))
   told WriteFault whole front = told_front WriteFault (λ a. a) (front (λ a. a))
   told NoMemory whole front = told_front NoMemory (λ a. a) (front (λ a. a))
@@ -210,24 +252,11 @@ module _ (question : Question) (code text : List ℕ) (status : Status) (before 
   told HookRefused whole front = told_all HookRefused (whole tt)
   told TooLong whole front = told_all TooLong (whole tt)
 
--- no fault of the sink in memory, and no other accident
-pub answers : (status : Status) → status ≢ ReadFault → status ≢ WriteFault → status ≢ NoMemory → IsAnswer status
-answers ReadFault r w n = absurd (r refl)
-answers WriteFault r w n = absurd (w refl)
-answers NoMemory r w n = absurd (n refl)
-answers other r w n = tt
-
-pub never_rose : Rose 0 0 → ⊥
-never_rose rose = omega (arith, rose)
-
--- no answer but that of the lines
-pub no_usage : (result status : Status) → (IsAnswer result → result ≡ status) → status ≢ Usage → result ≢ Usage
-no_usage result status same apart is = apart (sym (same (subst IsAnswer (sym is) tt)) ∙ is)
-
 -- ---- other words
 
 -- a status that answers is that of the usage line
-pub tells_usage : (result : Status) (before now : Option (List ℕ)) → (IsAnswer result → (result ≡ Usage) × Appends before now usage_line) →
+pub tells_usage : (result : Status) (before now : Option (List ℕ)) →
+    (IsAnswer result → (result ≡ Usage) × Appends before now usage_line) →
     ((IsAnswer result → ⊥) → WroteFront usage_line before now) → result ≢ ReadFault → TellsUsage result before now
 tells_usage Usage before now whole front apart = (whole tt).1
 tells_usage WriteFault before now whole front apart = front (λ a. a)
@@ -236,10 +265,13 @@ tells_usage ReadFault before now whole front apart = absurd (apart refl)
 tells_usage other before now whole front apart = let is : other ≡ Usage = (whole tt).0 in absurd (cc)
 
 other_stops : (bytes : List ℕ) (result : Status) (left before now : Option (List ℕ)) → left ≡ Some bytes →
-    (IsAnswer result → (result ≡ Usage) × Appends before now usage_line) → ((IsAnswer result → ⊥) → WroteFront usage_line before now) → (result ≡ TooLong → Usage ≡ TooLong) →
+    (IsAnswer result → (result ≡ Usage) × Appends before now usage_line) →
+    ((IsAnswer result → ⊥) → WroteFront usage_line before now) → (result ≡ TooLong → Usage ≡ TooLong) →
     Stops Other bytes result left before now
 other_stops bytes result left before now told whole front full =
-    let w : WroteFront usage_line before now = wrote_front result (record { text = usage_line; status = Some result }) before now (λ is. record { wrote = (whole is).1; ended = refl }) front in
+    let w : WroteFront usage_line before now =
+    wrote_front result (record { text = usage_line; status = Some result }) before now
+    (λ is. record { wrote = (whole is).1; ended = refl }) front in
     record {
       taken = [];
       rest = bytes;
@@ -251,10 +283,14 @@ other_stops bytes result left before now told whole front full =
       full = λ long. let no : Usage ≡ TooLong = full long in absurd (cc);
       due = inr (record { text = usage_line; due = refl; is = (w.more, w.whole) });
       prompt = λ early late text parts much is. absurd (omega (arith, ap length parts, length-append early late));
+      reads_on = λ early late parts much. absurd (omega (arith, ap length parts, length-append early late));
     }
 
-pub usage_stops : (command : Command) (bytes : List ℕ) (result : Status) (left before now : Option (List ℕ)) → Other ≡ command → left ≡ Some bytes →
-    (IsAnswer result → (result ≡ Usage) × Appends before now usage_line) → ((IsAnswer result → ⊥) → WroteFront usage_line before now) → (result ≡ TooLong → Usage ≡ TooLong) →
+pub usage_stops : (command : Command) (bytes : List ℕ) (result : Status) (left before now : Option (List ℕ)) →
+    Other ≡ command → left ≡ Some bytes →
+    (IsAnswer result → (result ≡ Usage) × Appends before now usage_line) →
+    ((IsAnswer result → ⊥) → WroteFront usage_line before now) → (result ≡ TooLong → Usage ≡ TooLong) →
     Stops command bytes result left before now
 usage_stops command bytes result left before now named told whole front full =
-    subst (λ c. Stops c bytes result left before now) named (other_stops bytes result left before now told whole front full)
+    subst (λ c. Stops c bytes result left before now) named
+    (other_stops bytes result left before now told whole front full)

@@ -1,8 +1,6 @@
 -- What the program prints and answers, by its words and the bytes of its input (this project's own).
 use Rattle.std.specs.Prelude.{ℕ, pos, ◌≡◌, ◌≢◌, ◌≤◌, List, [], ◌∷◌, ◌++◌, codes, if◌then◌else◌, Option, Some, None}
-use Rattle.std.specs.Fmt.{decimal}
 use Rattle.std.specs.Str.{bytes_eq}
-use Rattle.hk_base.specs.Hexadecimal.{hex_text}
 use Rattle.hk_base.specs.declared.outcome.Outcome.{Outcome}
 use Rattle.wa_ops.specs.HookRules.{is_hook}
 use Rattle.wa_machine.specs.Machine.{HostMeaning}
@@ -13,17 +11,20 @@ use Rattle.hk_bound.specs.declared.fault.CheckFault.{CheckFault}
 use Rattle.hk_bound.specs.declared.fault.CheckFault.TheVariants as fault
 use Rattle.hk_lines.specs.Given.{Close, ended, Given, given}
 use Rattle.hk_lines.specs.Numbers.{longest_input}
+use Rattle.hk_lines.specs.Reached.{reached}
 use Rattle.hk_lines.specs.OutputForms.{line_text}
 use Rattle.hk_lines.specs.declared.output_line.OutputLine.TheVariants as printed
 use Rattle.hk_lines.specs.declared.status.Status.{Status}
-use Rattle.hk_lines.specs.declared.status.Status.TheVariants.{Done, Usage, BadInput, ReadFault, WriteFault, NoMemory, HookRefused, TooLong}
+use Rattle.hk_lines.specs.declared.status.Status.TheVariants.{Done, Usage, BadInput, ReadFault, WriteFault}
+use Rattle.hk_lines.specs.declared.status.Status.TheVariants.{NoMemory, HookRefused, TooLong}
 use Rattle.hk_ledger.specs.Machine as machine
 use Rattle.hk_replay.specs.declared.command.Command.{Command}
 use Rattle.hk_replay.specs.declared.command.Command.TheVariants.{Hook, Replay, Other}
 use Rattle.hk_replay.specs.declared.command.Question.{Question}
 use Rattle.hk_replay.specs.declared.command.Question.TheVariants.{Check, Run}
 use Rattle.hk_replay.specs.HookLines.{hook_turn}
-use Rattle.hk_replay.specs.Refusals.{refused_line}
+use Rattle.hk_replay.specs.VerdictLines.{accepted_line, refused_line}
+use Rattle.hk_replay.specs.Verdicts.{HasVerdict}
 use Rattle.hk_replay.specs.Replaying.{replay_turn}
 
 -- the command that the words name
@@ -38,17 +39,6 @@ command_of words = Other
 abbrev pub usage_line : List ℕ
 usage_line = codes "usage: hooks check | run | replay | demo N" ++ 10 ∷ []
 
--- the bound of `cbak`, or a dash
-abbrev pub cbak_text : Option ℕ → List ℕ
-cbak_text None = 45 ∷ []
-cbak_text (Some bound) = decimal bound
-
--- the line of an accepted code: its hash and its bounds
-abbrev pub accepted_line : Held → List ℕ
-accepted_line held =
-    codes "ok "
-    ++ (hex_text held.hash.0 ++ (codes " hook " ++ (decimal held.bound_hook ++ (codes " cbak " ++ (cbak_text held.bound_cbak ++ 10 ∷ [])))))
-
 -- the version of the machine in which `check` and `run` take a code
 abbrev pub version : ℕ
 version = 0
@@ -61,7 +51,9 @@ pub record IsAccepted (code text : List ℕ) : Type 0 where
 
 -- a host of no calls: it has one state
 abbrev pub no_calls : HostMeaning ℕ
-no_calls = meaning_of (λ state row arguments memory. pos 0) (λ state row arguments memory. memory) (λ state row arguments memory. state)
+no_calls =
+    meaning_of (λ state row arguments memory. pos 0) (λ state row arguments memory. memory)
+    (λ state row arguments memory. state)
 
 -- the code is accepted, and the line is that of its `hook`, run with argument 0 to its end
 pub record IsRunOf (code text : List ℕ) : Type 0 where
@@ -94,7 +86,7 @@ IsReply question code text Done = Accepts question code text
 IsReply question code text HookRefused = IsRefusal code text
 IsReply question code text status = ⊥
 
--- the lines of `check` and `run`, which give the hook's code where they are right
+-- the lines of `check` and `run`, which print nothing while they are right
 abbrev pub hook_lines : List ℕ → Close → Given
 hook_lines bytes close = given hook_turn longest_input None bytes close
 
@@ -102,16 +94,27 @@ hook_lines bytes close = given hook_turn longest_input None bytes close
 abbrev pub replay_lines : List ℕ → Close → Given
 replay_lines bytes close = given replay_turn longest_input machine.start bytes close
 
+-- the code of the hook line, once there is one
+abbrev pub code_of : Option (List ℕ) → List ℕ
+code_of None = []
+code_of (Some code) = code
+
+-- the code to which these lines lead
+abbrev pub hook_code : List ℕ → List ℕ
+hook_code bytes = code_of (reached hook_turn longest_input None bytes)
+
 -- right lines are answered by their code, and others by what they give
-abbrev pub Replies : Question → Option Status → List ℕ → List ℕ → Status → Type 0
-Replies question (Some Done) code text status = IsReply question code text status
-Replies question (Some other) shown text status = (text ≡ shown) × (status ≡ other)
-Replies question None shown text status = ⊥
+abbrev pub Replies : Question → List ℕ → Option Status → List ℕ → List ℕ → Status → Type 0
+Replies question code (Some Done) shown text status = IsReply question code text status
+Replies question code (Some other) shown text status = (text ≡ shown) × (status ≡ other)
+Replies question code None shown text status = ⊥
 
 -- the text and the status that a command gives for this input
 abbrev pub GivesFor : Command → List ℕ → List ℕ → Status → Type 0
-GivesFor (Hook question) bytes text status = Replies question (hook_lines bytes ended).status (hook_lines bytes ended).text text status
-GivesFor Replay bytes text status = (text ≡ (replay_lines bytes ended).text) × ((replay_lines bytes ended).status ≡ Some status)
+GivesFor (Hook question) bytes text status =
+    Replies question (hook_code bytes) (hook_lines bytes ended).status (hook_lines bytes ended).text text status
+GivesFor Replay bytes text status =
+    (text ≡ (replay_lines bytes ended).text) × ((replay_lines bytes ended).status ≡ Some status)
 GivesFor Other bytes text status = (text ≡ usage_line) × (status ≡ Usage)
 
 abbrev pub Gives : List (List ℕ) → List ℕ → List ℕ → Status → Type 0
@@ -136,3 +139,13 @@ pub record IsSame (first second : List ℕ) (status other : Status) : Type 0 whe
 abbrev pub OneAnswer : Type 0
 OneAnswer = (words : List (List ℕ)) (bytes first second : List ℕ) (status other : Status) →
     Gives words bytes first status → Gives words bytes second other → IsSame first second status other
+
+-- the code to which the lines of `check` and `run` lead has its verdict; no other command has a code
+abbrev pub IsDecided : Command → List ℕ → Type 0
+IsDecided (Hook question) bytes = HasVerdict version (hook_code bytes)
+IsDecided command bytes = Unit {0}
+
+-- words and an input have some text and some status
+abbrev pub SomeAnswer : Type 0
+SomeAnswer = (words : List (List ℕ)) (bytes : List ℕ) → IsDecided (command_of words) bytes →
+    (text : List ℕ) × (status : Status) × Gives words bytes text status

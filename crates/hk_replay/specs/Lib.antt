@@ -1,7 +1,8 @@
 pub mod Words
 pub mod HookLines
 pub mod Replaying
-pub mod Refusals
+pub mod VerdictLines
+pub mod Verdicts
 pub mod Answers
 pub mod Moved
 pub mod Conserved

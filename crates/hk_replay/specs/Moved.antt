@@ -10,25 +10,33 @@ use Rattle.hk_loop.specs.Through.{close_at}
 use Rattle.hk_replay.specs.declared.command.Command.{Command}
 use Rattle.hk_replay.specs.declared.command.Command.TheVariants.{Hook, Replay, Other}
 use Rattle.hk_replay.specs.declared.command.Question.{Question}
-use Rattle.hk_replay.specs.Answers.{GivesFor, IsReply, hook_lines, replay_lines, usage_line}
+use Rattle.hk_replay.specs.Answers.{GivesFor, IsReply, hook_code, hook_lines, replay_lines, usage_line}
 
 -- a text was written that is given with this status
-pub record Answered (command : Command) (bytes : List ℕ) (status : Status) (before now : Option (List ℕ)) : Type 0 where
+pub record Answered (command : Command) (bytes : List ℕ) (status : Status) (before now : Option (List ℕ))
+    : Type 0 where
   pub text : List ℕ
   pub given : GivesFor command bytes text status
   pub wrote : Appends before now text
 
 -- the text that lines with one hook make due: nothing while they go on, then what they are answered
-abbrev pub RepliesDue : Question → Option Status → List ℕ → List ℕ → Type 0
-RepliesDue question (Some Done) code text = (status : Status) × IsReply question code text status
-RepliesDue question (Some other) shown text = text ≡ shown
-RepliesDue question None shown text = text ≡ []
+abbrev pub RepliesDue : Question → List ℕ → Option Status → List ℕ → List ℕ → Type 0
+RepliesDue question code (Some Done) shown text = (status : Status) × IsReply question code text status
+RepliesDue question code (Some other) shown text = text ≡ shown
+RepliesDue question code None shown text = text ≡ []
 
 -- the text that is due once these bytes were taken, by what comes behind them
 abbrev pub DueFor : Command → List ℕ → Close → List ℕ → Type 0
-DueFor (Hook question) bytes close text = RepliesDue question (hook_lines bytes close).status (hook_lines bytes close).text text
+DueFor (Hook question) bytes close text =
+    RepliesDue question (hook_code bytes) (hook_lines bytes close).status (hook_lines bytes close).text text
 DueFor Replay bytes close text = text ≡ (replay_lines bytes close).text
 DueFor Other bytes close text = text ≡ usage_line
+
+-- these bytes end nothing, so the command reads on; words that are no command read nothing
+abbrev pub ReadsOn : Command → List ℕ → Type 0
+ReadsOn (Hook question) bytes = (hook_lines bytes opened).status ≡ None
+ReadsOn Replay bytes = (replay_lines bytes opened).status ≡ None
+ReadsOn Other bytes = ⊥
 
 -- a front of a text that is due was written, if anything was
 pub record WroteDue (command : Command) (bytes : List ℕ) (close : Close) (front : List ℕ) : Type 0 where
@@ -37,7 +45,8 @@ pub record WroteDue (command : Command) (bytes : List ℕ) (close : Close) (fron
   pub is : IsFront front text
 
 -- some bytes were taken and a text was written when the program answered this status
-pub record Stops (command : Command) (bytes : List ℕ) (status : Status) (left before now : Option (List ℕ)) : Type 0 where
+pub record Stops (command : Command) (bytes : List ℕ) (status : Status) (left before now : Option (List ℕ))
+    : Type 0 where
   pub taken : List ℕ
   pub rest : List ℕ
   pub front : List ℕ
@@ -50,7 +59,10 @@ pub record Stops (command : Command) (bytes : List ℕ) (status : Status) (left 
   -- no more was written than is due for the bytes that were taken
   pub due : (front ≡ []) ⊎ WroteDue command taken (close_at rest) front
   -- no less was written than is due for all of them but the last 65,536
-  pub prompt : (early late text : List ℕ) → taken ≡ early ++ late → 65536 ≤ length late → DueFor command early opened text → IsFront text front
+  pub prompt : (early late text : List ℕ) → taken ≡ early ++ late → 65536 ≤ length late →
+      DueFor command early opened text → IsFront text front
+  -- and these had ended nothing: behind the end or a wrong line no more is taken than that
+  pub reads_on : (early late : List ℕ) → taken ≡ early ++ late → 65536 ≤ length late → ReadsOn command early
 
 -- for words that are no command: the usage line, or its front and why no more of it was written
 abbrev pub TellsUsage : Status → Option (List ℕ) → Option (List ℕ) → Type 0

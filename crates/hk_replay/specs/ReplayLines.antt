@@ -1,5 +1,6 @@
 -- The lines of a replay by their order, and the ledger machine that goes through right lines (this project's own).
-use Rattle.std.specs.Prelude.{◌≡◌, ℕ, ◌+◌, Bool, false, ◌||◌, not, nat_lt, nat_le, List, [], ◌∷◌, Option, Some, None, Result, Ok, Err}
+use Rattle.std.specs.Prelude.{◌≡◌, ℕ, ◌+◌, Bool, false, ◌||◌, not, nat_lt, nat_le}
+use Rattle.std.specs.Prelude.{List, [], ◌∷◌, Option, Some, None, Result, Ok, Err}
 use Rattle.std.specs.Str.{bytes_eq}
 use Rattle.hk_base.specs.declared.ids.AccountId.{AccountId}
 use Rattle.hk_reading.specs.Reading.{reading}
@@ -14,14 +15,17 @@ use Rattle.hk_lines.specs.declared.rule.Rule.{Rule}
 use Rattle.hk_lines.specs.declared.rule.Rule.TheVariants.{BadWord, BadOrder, RepeatedAccount, Total}
 use Rattle.hk_lines.specs.declared.status.Status.TheVariants.{Done}
 use Rattle.hk_ledger.specs.Machine.{State, start, final_lines}
-use Rattle.hk_ledger.specs.Native.{native}
-use Rattle.hk_ledger.specs.Rows.{first_row}
+use Rattle.hk_state.specs.Native.{native}
+use Rattle.hk_base.specs.Rows.{first_row}
 use Rattle.hk_ledger.specs.Transactions.{Applied, applied}
-use Rattle.hk_ledger.specs.World.{most_drops, with_account, with_header}
+use Rattle.hk_ledger.specs.World.{most_drops, with_account}
+use Rattle.hk_state.specs.Ledger.{with_header}
 use Rattle.hk_replay.specs.Replaying.{texts, replay_turn}
-use Rattle.hk_replay.specs.Words.{is_replay_line, read_if, rule_of}
+use Rattle.hk_lines.specs.Taken.{read_if, rule_of}
+use Rattle.hk_replay.specs.Words.{is_replay_line}
 
--- what earlier lines say: the accounts that were opened, the sum of their balances, and the last ledger's sequence, 0 before the first
+-- what earlier lines say: the accounts that were opened, the sum of their balances, and the last ledger's sequence, 0
+-- before the first
 pub record Order : Type 0 where
   pub accounts : List AccountId
   pub total : ℕ
@@ -60,9 +64,11 @@ with_opened order id balance = record order { accounts = id ∷ order.accounts; 
 -- a line of one of the forms
 abbrev pub ordered : Order → InputLine → Read Order InputLine
 ordered order (Account id balance sequence) =
-    unless_refused (first_row (account_faults order id balance)) (takes (with_opened order id balance) (Account id balance sequence))
+    unless_refused (first_row (account_faults order id balance))
+    (takes (with_opened order id balance) (Account id balance sequence))
 ordered order (Ledger seq time last_hash) =
-    unless_refused (first_row (ledger_faults order seq)) (takes (record order { seq = seq }) (Ledger seq time last_hash))
+    unless_refused (first_row (ledger_faults order seq))
+    (takes (record order { seq = seq }) (Ledger seq time last_hash))
 ordered order (Tx verdict blob) = unless_refused (first_row (tx_faults order)) (takes order (Tx verdict blob))
 ordered order (Hook code) = refuses BadWord
 ordered order End = closes
@@ -77,13 +83,16 @@ replay_line order line = ordered_read order (read_if (is_replay_line line) line)
 
 -- an event leaves its ledger, and its line is printed
 abbrev pub after_event : State → Applied → State × List OutputLine
-after_event s done = (record { ledger = done.ledger; count = s.count + 1 }, shown.Tx (s.count + 1) done.result done.fee ∷ [])
+after_event s done =
+    (record { ledger = done.ledger; count = s.count + 1 }, shown.Tx (s.count + 1) done.result done.fee ∷ [])
 
 -- what a right line does and prints
 abbrev pub right_step : State → InputLine → State × List OutputLine
 right_step s (Account id balance sequence) = (record s { ledger = with_account s.ledger id balance sequence }, [])
-right_step s (Ledger seq time last_hash) =
-    (record s { ledger = with_header s.ledger (record { seq = seq; time = time; last_hash = last_hash }) }, shown.Ledger seq ∷ [])
+right_step s (Ledger seq time last_hash) = (
+  record s { ledger = with_header s.ledger (record { seq = seq; time = time; last_hash = last_hash }) },
+  shown.Ledger seq ∷ [],
+)
 right_step s (Tx verdict blob) = after_event s (applied native s.ledger verdict (reading blob))
 right_step s other = (s, [])
 
@@ -98,4 +107,5 @@ replay_machine = record {
 -- a replay is the machine, going through the lines
 abbrev pub ReplayFolds : Type 0
 ReplayFolds = (limit : ℕ) (bytes : List ℕ) (close : Close) →
-    given replay_turn limit start bytes close ≡ fold_lines replay_machine start (lines replay_line limit no_lines bytes close)
+    given replay_turn limit start bytes close
+    ≡ fold_lines replay_machine start (lines replay_line limit no_lines bytes close)

@@ -7,8 +7,9 @@ use Rattle.hk_lines.specs.declared.output_line.OutputLine.{OutputLine}
 use Rattle.hk_lines.specs.declared.line_fault.LineFault.{LineFault}
 use Rattle.hk_lines.specs.declared.status.Status.TheVariants.{Done}
 use Rattle.hk_ledger.specs.Machine as machine
-use Rattle.hk_ledger.specs.Native.{native}
-use Rattle.hk_replay.specs.Words.{is_replay_line, read_if, rule_of}
+use Rattle.hk_state.specs.Native.{native}
+use Rattle.hk_lines.specs.Taken.{read_if, rule_of}
+use Rattle.hk_replay.specs.Words.{is_replay_line}
 
 -- the lines' texts, joined
 abbrev pub texts : List OutputLine → List ℕ

@@ -1,16 +1,17 @@
 //! The lines of `check` and `run`: one hook, and the end.
-ghost use Rattle.std.specs.Prelude.{◌≡◌, IfOk, None};
+ghost use Rattle.std.specs.Prelude.{◌≡◌, List, ℕ, None};
 ghost use Rattle.hk_loop.specs.Turned.{Did};
+ghost use Rattle.hk_replay.specs.Answers.{code_of};
 ghost use Rattle.hk_replay.specs.HookLines.{hook_step};
 
-use crate::words::{is_hook_line, read_if, rule_of};
+use crate::words::is_hook_line;
 use hk_base::{Items, NoMemory};
-use hk_lines::{InputLine, LineFault, Rule, Status};
+use hk_lines::{InputLine, LineFault, Rule, Status, read_if, rule_of};
 use hk_loop::{Command, Turned};
 use std::alloc::{AllocError, Global};
 use std::marker::Model;
 
-/// The hook's code, once its line was taken. The end prints it as it is.
+/// The hook's code, once its line was taken. Right lines print nothing.
 #[derive(Drop)]
 pub(crate) struct HookLines {
     code: Option<Items<u8>>,
@@ -34,33 +35,36 @@ impl HookLines {
         HookLines { code: None }
     }
 
-    // The end of the lines.
-    fn end(&self, out: &mut Vec<u8>) -> Result<Turned, NoMemory>
-        ensures did { IfOk result (λ turned. Did (hook_step self.now InputLine.End) turned self.now out.old.items out.new.items) }
+    /// The hook's code, which has no bytes where no line had one.
+    pub(crate) fn code(&self) -> &[u8]
+        ensures code { result.now ≡ code_of self.now }
     {
         match &self.code {
-            None => Ok(Turned::Wrong(Rule::BadOrder)),
-            Some(code) => {
-                out.extend_from_slice(code.as_slice())?;
-                Ok(Turned::Ends(Status::Done))
-            }
+            None => b"",
+            Some(code) => code.as_slice(),
         }
     }
 
     // A line that was read.
-    fn take(&mut self, line: InputLine, out: &mut Vec<u8>) -> Result<Turned, NoMemory>
-        ensures did { IfOk result (λ turned. Did (hook_step self.old line) turned self.new out.old.items out.new.items) }
+    fn take(&mut self, line: InputLine) -> Turned
+        ensures did { (out : List ℕ) → Did (hook_step self.old line) result self.new out out }
+        ensures kept { result ≡ Turned.Ends Status.Done → self.new ≡ self.old }
     {
         match line {
             InputLine::Hook { code } => {
                 if self.code.is_some() {
-                    return Ok(Turned::Wrong(Rule::BadOrder));
+                    return Turned::Wrong(Rule::BadOrder);
                 }
                 self.code = Some(code);
-                Ok(Turned::Goes)
+                Turned::Goes
             }
-            InputLine::End => self.end(out),
-            _ => Ok(Turned::Wrong(Rule::BadWord)),
+            InputLine::End => {
+                if self.code.is_none() {
+                    return Turned::Wrong(Rule::BadOrder);
+                }
+                Turned::Ends(Status::Done)
+            }
+            _ => Turned::Wrong(Rule::BadWord),
         }
     }
 }
@@ -70,9 +74,11 @@ impl Command for HookLines {
 
     ghost turn = { hook_turn };
 
-    fn line(&mut self, alloc: Global, line: &[u8], out: &mut Vec<u8>) -> Result<Turned, NoMemory> {
+    ghost keeps = { λ before after. after ≡ before };
+
+    fn line(&mut self, alloc: Global, line: &[u8], _: &mut Vec<u8>) -> Result<Turned, NoMemory> {
         match read_if(alloc, is_hook_line(line), line) {
-            Ok(line) => self.take(line, out),
+            Ok(line) => Ok(self.take(line)),
             Err(LineFault::NoMemory) => Err(AllocError),
             Err(fault) => Ok(Turned::Wrong(rule_of(fault))),
         }

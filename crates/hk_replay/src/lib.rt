@@ -2,19 +2,22 @@
 #![tactic(auto)]
 
 mod command;
+mod hook;
 mod hook_lines;
 mod laws;
+mod limits;
 mod no_host;
 mod program;
-mod refusal;
+mod replay;
 mod replaying;
 mod reply;
 mod status;
 #[cfg(test)]
 mod tests;
+mod verdict;
 mod words;
 
 pub use hk_lines::Status;
-pub use laws::{hook_folds, one_answer, printed_counts, replay_folds};
+pub use laws::{each_verdict, hook_folds, one_answer, printed_counts, replay_folds, some_answer};
 pub use program::top;
 pub use status::exit_status;

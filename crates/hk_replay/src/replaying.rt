@@ -1,15 +1,18 @@
 //! The lines of `replay`.
 ghost use Rattle.std.specs.Prelude.{◌≡◌, ◌++◌, ◌⊎◌, Err, IfOk, OnOk};
 ghost use Rattle.hk_ledger.specs.Machine.{start, step, IsInRange};
-ghost use Rattle.hk_ledger.specs.Native.{native};
+ghost use Rattle.hk_state.specs.Native.{native};
 ghost use Rattle.hk_loop.specs.Turned.{Did};
 ghost use Rattle.hk_replay.specs.Replaying.{texts, printed};
-ghost use Rattle.hk_replay.specs.Words.{read_if};
+ghost use Rattle.hk_lines.specs.Taken.{read_if};
 
-use crate::words::{is_replay_line, read_if, rule_of};
+use crate::words::is_replay_line;
 use hk_base::NoMemory;
-use hk_ledger::{Native, Replay, Stepped};
-use hk_lines::{InputLine, LineFault, OutputLine, Status, print_line, reads_spelled};
+use hk_ledger::{Replay, Stepped};
+use hk_state::Native;
+use hk_lines::{
+    InputLine, LineFault, OutputLine, Status, print_line, read_if, reads_spelled, rule_of,
+};
 use hk_loop::{Command, Turned};
 use std::alloc::{AllocError, Global};
 use std::marker::Model;
@@ -47,7 +50,8 @@ impl Replaying {
         out: &mut Vec<u8>,
     ) -> Result<Turned, NoMemory>
         requires range { IsInRange line.now }
-        ensures did { IfOk result (λ turned. Did (printed (step native self.old line.now)) turned self.new out.old.items out.new.items) }
+        ensures did { IfOk result (λ turned.
+            Did (printed (step native self.old line.now)) turned self.new out.old.items out.new.items) }
     {
         match self.replay.line(alloc, &Native, line)? {
             Stepped::Goes(lines) => {
@@ -80,7 +84,7 @@ impl Command for Replaying {
 // Reads a line, where the command takes its first word.
 fn read_in_range(alloc: Global, taken: bool, line: &[u8]) -> Result<InputLine, LineFault>
     ensures read { (result ≡ read_if taken line.now) ⊎ (result ≡ Err LineFault.NoMemory) }
-    ensures range { IfOk result (λ line. IsInRange line) }
+    ensures range { IfOk result (λ found. IsInRange found) }
 {
     reads_spelled();
     read_if(alloc, taken, line)

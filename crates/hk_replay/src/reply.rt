@@ -1,13 +1,12 @@
 //! What a code is answered.
-ghost use Rattle.std.specs.Prelude.{◌≡◌, List, ℕ, IfOk, string_bytes};
-ghost use Rattle.hk_base.specs.Hexadecimal.{hex_text};
+ghost use Rattle.std.specs.Prelude.{◌≡◌, List, ℕ, IfOk};
 ghost use Rattle.hk_bound.specs.Checks.{Holds};
-ghost use Rattle.hk_replay.specs.Answers.{IsReply, IsRunOf, Accepts, accepted_line, cbak_text, version};
+ghost use Rattle.hk_replay.specs.Answers.{IsReply, IsRunOf, Accepts, version};
 
 use crate::command::Question;
 use crate::no_host::NoHost;
-use crate::refusal::refused_line;
-use hk_base::{Hash256, NoMemory};
+use crate::verdict::{accepted_line, refused_line};
+use hk_base::NoMemory;
 use hk_bound::{CheckFault, Checked, check};
 use hk_lines::{OutputLine, Status, print_line};
 use std::alloc::{AllocError, Global};
@@ -20,7 +19,8 @@ pub(crate) struct Reply {
     pub(crate) status: Status,
 }
 
-/// What a code is answered: it is checked, and where it is to be run and is accepted, its `hook` is run once with argument 0.
+/// What a code is answered: it is checked, and where it is to be run and is accepted, its `hook` is run once with
+/// argument 0.
 pub(crate) fn reply_to(alloc: Global, question: Question, code: &[u8]) -> Result<Reply, NoMemory>
     ensures reply { IfOk result (λ reply. IsReply question code.now reply.text.items reply.status) }
 {
@@ -46,7 +46,8 @@ pub(crate) fn reply_to(alloc: Global, question: Question, code: &[u8]) -> Result
 
 // What an accepted code is answered.
 fn accepted(alloc: Global, question: Question, checked: &Checked) -> Result<Vec<u8>, NoMemory>
-    ensures accepts { IfOk result (λ text. (code : List ℕ) → Holds version code checked.now → Accepts question code text.items) }
+    ensures accepts { IfOk result (λ text.
+        (code : List ℕ) → Holds version code checked.now → Accepts question code text.items) }
 {
     match question {
         Question::Check => {
@@ -54,33 +55,6 @@ fn accepted(alloc: Global, question: Question, checked: &Checked) -> Result<Vec<
             Vec::from_slice(alloc, line.as_bytes())
         }
         Question::Run => run_to_end(alloc, checked),
-    }
-}
-
-// The line of an accepted code: its hash and its bounds.
-fn accepted_line(alloc: Global, checked: &Checked) -> Result<String, NoMemory>
-    ensures line { IfOk result (λ line. string_bytes line ≡ accepted_line checked.now) }
-{
-    let hash = hash_text(alloc, &checked.hash())?;
-    let bound = checked.bound_hook();
-    let cbak = cbak_text(alloc, checked.bound_cbak())?;
-    format!(in alloc; "ok {hash} hook {bound} cbak {cbak}\n")
-}
-
-// A hash in lower-case hex.
-fn hash_text(alloc: Global, hash: &Hash256) -> Result<String, NoMemory>
-    ensures text { IfOk result (λ text. string_bytes text ≡ hex_text hash.now.0) }
-{
-    hex::encode(alloc, &hash.0)
-}
-
-// The bound of `cbak`, or a dash.
-fn cbak_text(alloc: Global, bound: Option<u64>) -> Result<String, NoMemory>
-    ensures text { IfOk result (λ text. string_bytes text ≡ cbak_text bound) }
-{
-    match bound {
-        None => String::from_str(alloc, "-"),
-        Some(bound) => format!(in alloc; "{bound}"),
     }
 }
 

@@ -1,4 +1,4 @@
-use Rattle.hk_replay.proofs.Folding.{hook_folds}
+use Rattle.hk_replay.proofs.HookFolding.{hook_folds}
 use Rattle.hk_replay.proofs.laws.hook_folds.Goals as goal
 
 pub returns : goal.returns

@@ -1,0 +1,80 @@
+-- Words and an input have some text and some status.
+use Rattle.std.proofs.Common.{inl, inr, ℕ, List, Option, Some, None, refl, sym, subst, arith}
+use Rattle.wa_exec.specs.Runs.{RunsWithin, named}
+use Rattle.hk_bound.specs.Checks.{Held, Holds, IsHeld}
+use Rattle.hk_bound.specs.declared.fault.Export.{Export}
+use Rattle.hk_bound.specs.declared.fault.Export.TheVariants as «export»
+use Rattle.hk_lines.specs.Ended.{HasStatus}
+use Rattle.hk_lines.specs.Given.{ended}
+use Rattle.hk_lines.specs.Numbers.{longest_input}
+use Rattle.hk_lines.specs.declared.status.Status.{Status}
+use Rattle.hk_lines.specs.declared.status.Status.TheVariants.{Done, Usage, HookRefused}
+use Rattle.hk_lines.specs.OutputForms.{line_text}
+use Rattle.hk_lines.specs.declared.output_line.OutputLine.TheVariants as printed
+use Rattle.hk_lines.proofs.Ending.{gives_status_law}
+use Rattle.hk_ledger.specs.Machine as machine
+use Rattle.hk_replay.specs.declared.command.Command.{Command}
+use Rattle.hk_replay.specs.declared.command.Command.TheVariants.{Hook, Replay, Other}
+use Rattle.hk_replay.specs.declared.command.Question.{Question}
+use Rattle.hk_replay.specs.declared.command.Question.TheVariants.{Check, Run}
+use Rattle.hk_replay.specs.Answers.{version, IsDecided, SomeAnswer, IsReply, Replies, GivesFor, no_calls, hook_code}
+use Rattle.hk_replay.specs.Answers.{hook_lines, replay_lines, usage_line, command_of}
+use Rattle.hk_replay.specs.HookLines.{hook_turn}
+use Rattle.hk_replay.specs.VerdictLines.{accepted_line, refused_line}
+use Rattle.hk_replay.specs.Verdicts.{HasVerdict}
+use Rattle.hk_replay.specs.Replaying.{replay_turn}
+
+-- what is held of a code in this version is held in its own
+pub held_so : (code : List ℕ) (held : Held) → Holds version code held → IsHeld held
+held_so code held holds =
+    record { code = code; holds = subst (λ own. Holds own code held) (sym holds.version_is) holds }
+
+-- each run of a hook has an ending
+abbrev pub EachRun : Type 0
+EachRun = (held : Held) → IsHeld held → (which : Export) → RunsWithin ℕ held.wasm (named which)
+
+-- a code has some answer
+some_reply : EachRun → (question : Question) (code : List ℕ) → HasVerdict version code →
+    (text : List ℕ) × (status : Status) × IsReply question code text status
+some_reply law Check code (inl (held, holds)) =
+    (accepted_line held, Done, record { held = held; holds = holds; line = refl })
+some_reply law Run code (inl (held, holds)) =
+    let most =
+    law held (held_so code held holds) «export».Hook version no_calls 0 0 held.bound_hook
+    (omega arith) holds.bound_hook in (
+      line_text (printed.Run most.outcome most.count held.bound_hook),
+      Done,
+      record {
+        held = held;
+        holds = holds;
+        outcome = most.outcome;
+        count = most.count;
+        after = most.after;
+        run = most.run;
+        line = refl;
+      },
+    )
+some_reply law question code (inr (found, refused, named)) =
+    (refused_line found, HookRefused, record { found = found; refused = refused; named = named; line = refl })
+
+-- so have lines
+some_replies : EachRun → (question : Question) (code shown : List ℕ) (status : Status) → HasVerdict version code →
+    (text : List ℕ) × (answer : Status) × Replies question code (Some status) shown text answer
+some_replies law question code shown Done verdict = some_reply law question code verdict
+some_replies law question code shown other verdict = (shown, other, (refl, refl))
+
+some_for : EachRun → (command : Command) (bytes : List ℕ) → IsDecided command bytes →
+    (text : List ℕ) × (status : Status) × GivesFor command bytes text status
+some_for law (Hook question) bytes verdict =
+    let has : HasStatus (hook_lines bytes ended) = gives_status_law hook_turn longest_input None bytes in
+    let some = some_replies law question (hook_code bytes) (hook_lines bytes ended).text has.0 verdict in
+    let replies : Option Status → Type 0 =
+    λ found. Replies question (hook_code bytes) found (hook_lines bytes ended).text some.0 some.1 in
+    (some.0, some.1, subst replies (sym has.1) some.2)
+some_for law Replay bytes verdict =
+    let has : HasStatus (replay_lines bytes ended) = gives_status_law replay_turn longest_input machine.start bytes in
+    ((replay_lines bytes ended).text, has.0, (refl, has.1))
+some_for law Other bytes verdict = (usage_line, Usage, (refl, refl))
+
+pub some_answer : EachRun → SomeAnswer
+some_answer law words bytes decided = some_for law (command_of words) bytes decided

@@ -1,0 +1,4 @@
+//! The limit on input.
+
+/// The most bytes of input that are taken.
+pub(crate) const LONGEST_INPUT: usize = 1_073_741_824;
