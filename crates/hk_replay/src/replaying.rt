@@ -9,11 +9,11 @@ ghost use Rattle.hk_lines.specs.Taken.{read_if};
 use crate::words::is_replay_line;
 use hk_base::NoMemory;
 use hk_ledger::{Replay, Stepped};
-use hk_state::Native;
 use hk_lines::{
     InputLine, LineFault, OutputLine, Status, print_line, read_if, reads_spelled, rule_of,
 };
 use hk_loop::{Command, Turned};
+use hk_state::Native;
 use std::alloc::{AllocError, Global};
 use std::marker::Model;
 
