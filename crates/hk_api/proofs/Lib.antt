@@ -1,0 +1,5 @@
+pub mod Reserving
+pub mod Giving
+pub mod Leading
+pub mod Hookless
+pub mod Written
