@@ -1,5 +1,6 @@
 -- The calls of imports: what they take, and what they leave of the run.
 use Rattle.std.proofs.Common.{◌≡◌, ◌+◌, ◌-◌, ◌^◌, ◌<◌, ◌≤◌, ◌==◌, ℕ, zero, suc, ℤ, List, [], ◌∷◌, ◌++◌, Option, Some, None, Bool, true, false, if◌then◌else◌, nat_lt, IsTrue, IsFalse, length, map, take, drop, reverse, slice_get, slice_index_or, sym, ◌∙◌, ap, subst, refl, arith, append_assoc}
+use Rattle.std.proofs.lemmas.Option.{slice_get_within as some_within}
 use Rattle.std.proofs.lemmas.Bool.Decides.{nat_tests}
 use Rattle.std.proofs.lemmas.Option.{slice_get-get_or}
 use Rattle.std.proofs.lemmas.List.{take_at, drop_at, length-reverse, length-append, map-append, reverse-append, reverse-reverse}
@@ -28,7 +29,7 @@ use Rattle.wa_run.specs.declared.running.Running.{Running}
 use Rattle.wa_run.specs.declared.running.Stop.{Stop}
 use Rattle.wa_run.specs.declared.running.Stop.TheVariants as stop
 use Rattle.wa_run.proofs.Plain.{FindsSome, found_some, FindsAll, found_all, Keeps, moved}
-use Rattle.wa_run.proofs.Leaving.{words_append}
+use Rattle.wa_run.proofs.Leaving.{values_append, words_append}
 use Rattle.wa_run.proofs.Choosing.{if_is_true, if_is_false}
 use Rattle.wa_run.proofs.Following.{unticked, Top, guards_stay, onward_follows, BeforePlain, before_plain}
 use Rattle.wa_run.proofs.Numeric.{fit_front}
@@ -390,10 +391,6 @@ types_reversed (value ∷ values) =
     ap types_of (reverse-append (value ∷ []) values) ∙ types_append (reverse values) (value ∷ [])
     ∙ ap (λ kinds. kinds ++ type_of value ∷ []) (types_reversed values) ∙ sym (reverse-append (type_of value ∷ []) (types_of values))
 
-pub values_append : (xs ys : List Value) → AllValues xs → AllValues ys → AllValues (xs ++ ys)
-values_append [] ys v w = w
-values_append (x ∷ xs) ys v w = (v.0, values_append xs ys v.1 w)
-
 pub values_reversed : (values : List Value) → AllValues values → AllValues (reverse values)
 values_reversed [] v = tt
 values_reversed (value ∷ values) v =
@@ -476,11 +473,6 @@ pub row_within : (calls : List CallNo) (function : ℕ) (number : CallNo) → Ar
 row_within [] function number r e = absurd cc
 row_within (first ∷ calls) zero number r e = let p : first ≡ number = cc in subst (λ (n : CallNo). n.0 ≤ 64) p r.0
 row_within (first ∷ calls) (suc function) number r e = row_within calls function number r.1 e
-
-pub some_within : {A : Type 0} (xs : List A) (place : ℕ) (x : A) → slice_get xs place ≡ Some x → place < length xs
-some_within [] place x e = absurd cc
-some_within (first ∷ xs) zero x e = omega arith
-some_within (first ∷ xs) (suc place) x e = omega (arith, some_within xs place x e)
 
 -- the function that is called is there
 pub call_within : (S : Type 0) (ops : List Op) (ends : List ℕ) (calls : List CallNo) (function : ℕ) (old : Running) → slice_get ops old.at ≡ Some (op.Call function) → CanGo S ops ends calls old → function < length calls

@@ -1,5 +1,6 @@
 -- The search tree of counters: what a search finds, and what one pass more changes.
 use Rattle.std.proofs.Common.{◌≡◌, ◌+◌, ◌<◌, ◌≤◌, ◌==◌, ◌/◌, ◌%◌, ◌⊎◌, inl, inr, ◌++◌, ℕ, zero, suc, List, [], ◌∷◌, Some, Bool, true, false, if◌then◌else◌, length, slice_get, slice_set, slice_index_or, nat_lt, length-append, sym, ◌∙◌, ap, subst, refl, arith}
+use Rattle.std.proofs.lemmas.Option.{same_Some as one_some, slice_get_within as got_within}
 use Rattle.std.proofs.lemmas.Bool.Decides.{nat_tests}
 use Rattle.std.proofs.lemmas.Option.{get_or_from_slice_get}
 use Rattle.wa_machine.specs.Machine.{counted}
@@ -8,9 +9,6 @@ use Rattle.wa_run.specs.declared.counter.Spot.{Spot}
 use Rattle.wa_run.specs.Guards.{passed_by, passes_of, child, with_child, with_counter, Finds, IsAhead, IsTree, Extends, FindsAll, ComesTo, IsSpot}
 
 -- ---- lists
-
-pub one_some : {A : Type 0} (x y : A) → Some x ≡ Some y → x ≡ y
-one_some x y e = cc
 
 pub got_same : {A : Type 0} (xs : List A) (i : ℕ) (x y : A) → slice_get xs i ≡ Some x → slice_get (slice_set xs i y) i ≡ Some y
 got_same [] i x y e = absurd cc
@@ -37,11 +35,6 @@ got_front (first ∷ xs) ys (suc i) x e = got_front xs ys i x e
 pub got_last : {A : Type 0} (xs : List A) (y : A) → slice_get (xs ++ y ∷ []) (length xs) ≡ Some y
 got_last [] y = refl
 got_last (first ∷ xs) y = got_last xs y
-
-pub got_within : {A : Type 0} (xs : List A) (i : ℕ) (x : A) → slice_get xs i ≡ Some x → i < length xs
-got_within [] i x e = absurd cc
-got_within (first ∷ xs) zero x e = omega arith
-got_within (first ∷ xs) (suc i) x e = omega (arith, got_within xs i x e)
 
 -- what was got from a list that one more was put behind
 pub got_either : {A : Type 0} (xs : List A) (y : A) (i : ℕ) (x : A) → slice_get (xs ++ y ∷ []) i ≡ Some x → (slice_get xs i ≡ Some x) ⊎ ((i ≡ length xs) × (x ≡ y))

@@ -1,5 +1,6 @@
 -- The plain instructions on words, against those on typed operands.
 use Rattle.std.proofs.Common.{◌≡◌, ◌^◌, ◌<◌, ◌≤◌, ◌/◌, ◌==◌, ℕ, ℤ, zero, suc, List, [], ◌∷◌, ◌++◌, Option, Some, None, Bool, true, false, if◌then◌else◌, length, get_or, slice_get, slice_set, sym, ◌∙◌, ap, subst, refl, arith}
+use Rattle.wa_machine.proofs.Typed.{same_type}
 use Rattle.std.specs.Int.{cast_unsigned, w32, w64}
 use Rattle.wa_ops.specs.declared.op.Op.TheVariants as op
 use Rattle.wa_ops.specs.declared.op.ValueType.{ValueType}
@@ -30,13 +31,6 @@ pub found_word : {S : Type 0} (operands : List Value) (go : ℕ → List Value �
 found_word [] go s = absurd s
 found_word (word32 n ∷ left) go s = record { word = n; left = left; is = refl }
 found_word (word64 n ∷ left) go s = absurd s
-
-pub same_type : (a b : ValueType) → is_same_type a b ≡ true → a ≡ b
-same_type I32 I32 h = refl
-same_type I64 I64 h = refl
-same_type F32 F32 h = refl
-same_type F64 F64 h = refl
-same_type a b h = absurd cc
 
 -- operands of these types were taken
 pub record FindsAll {S : Type 0} (kinds : List ValueType) (operands : List Value) (go : List Value → List Value → Step S) : Type 0 where

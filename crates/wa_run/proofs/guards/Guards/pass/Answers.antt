@@ -1,7 +1,8 @@
 use Rattle.std.proofs.Common.{◌≡◌, ◌+◌, length, sym, ◌∙◌, ap, subst, refl, arith}
+use Rattle.std.proofs.lemmas.Option.{slice_get_within}
 use Rattle.wa_machine.specs.Machine.{counted}
 use Rattle.wa_run.specs.Guards.{Guards, IsTree, passes_of}
-use Rattle.wa_run.proofs.Counters.{spot_here, goes_nowhere, never_passed, passed_so, is_less, is_not_less, got_within, added_tree, added_long, added_more, counted_tree, counted_more}
+use Rattle.wa_run.proofs.Counters.{spot_here, goes_nowhere, never_passed, passed_so, is_less, is_not_less, added_tree, added_long, added_more, counted_tree, counted_more}
 use Rattle.wa_run.proofs.guards.Guards.pass.Goals as goal
 
 pub invariant_of-self : goal.invariant_of-self
@@ -54,7 +55,7 @@ returns-then-limit-counter-clause-passes c =
 pub index_mut-requires : goal.index_mut-requires
 index_mut-requires c =
     let h = spot_here c.as_slice.result.now c.self.inside.counters.items c.args.id c.spot_of-spot.result c.index-counter.result.now c.spot_of-spot.ensures.spot c.as_slice.ensures.value c.index-counter.ensures in
-    omega (arith, got_within c.self.inside.counters.items c.spot_of-spot.result.place c.index-counter.result.now h.got, ap length c.as_slice.ensures.value, c.as_slice.ensures.len)
+    omega (arith, slice_get_within c.self.inside.counters.items c.spot_of-spot.result.place c.index-counter.result.now h.got, ap length c.as_slice.ensures.value, c.as_slice.ensures.len)
 
 pub invariant_of-self-2 : goal.invariant_of-self-2
 invariant_of-self-2 c =
