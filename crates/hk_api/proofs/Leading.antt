@@ -27,7 +27,7 @@ use Rattle.hk_api.specs.States.{own_key, foreign_key, owner_of, namespace_of, is
 use Rattle.hk_api.specs.Table.{state_row, answers}
 use Rattle.hk_api.specs.Ends.{Holds, holds}
 use Rattle.hk_api.specs.Leads.{Leads, CallsLead}
-use Rattle.hk_api.proofs.Giving.{Gives, gives_then, gives_after, gives_refuse}
+use Rattle.hk_calls.proofs.Walks.{Gives, gives_then, gives_after, gives_refuse}
 
 -- the grounds of the hook that runs
 abbrev pub Grounds : HostState → StateKey → Type 0

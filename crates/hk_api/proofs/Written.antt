@@ -15,10 +15,6 @@ use Rattle.hk_api_parts.specs.declared.setting.Setting.{Setting}
 use Rattle.hk_api.specs.Fits.{ReservesFit, IsFit}
 use Rattle.hk_api.specs.HostState.{HostState, with_draft, with_state}
 
-pub on_ok : {A E P Q : Type 0} (r : Result A E) → (P → Q) → OnOk r P → OnOk r Q
-on_ok (Ok x) f p = f p
-on_ok (Err e) f p = tt
-
 -- bytes that there are stand in an entry
 pub change_kept : (bytes : List ℕ) → (bytes ≡ [] → ⊥) → Some (entry.State bytes) ≡ change_to bytes
 change_kept [] some = absurd (some refl)
