@@ -1,8 +1,6 @@
 //! Operations on integers by their names.
 use cases::{CaseFault, Words};
-use wa_num::{
-    binary32, binary64, compare32, compare64, convert, test32, test64, unary32, unary64,
-};
+use wa_num::{binary32, binary64, compare32, compare64, convert, test32, test64, unary32, unary64};
 
 /// The names of the operations and their opcodes (Core 1.0, "Numeric Instructions", and its sign extensions).
 const OPERATIONS: [(&str, u8); 66] = [

@@ -61,9 +61,7 @@ fn look(call: &str, words: &mut Words<'_>, world: &World) -> Result<String, Case
             let hash = hex(words.alloc, &header.last_hash.0)?;
             Ok(format!(in words.alloc; "{} {} {hash}", header.seq, header.time)?)
         }
-        "numbers" => {
-            Ok(format!(in words.alloc; "{} {}", ledger.next_number(), ledger.burnt())?)
-        }
+        "numbers" => { Ok(format!(in words.alloc; "{} {}", ledger.next_number(), ledger.burnt())?) }
         _ => Err(CaseFault::BadCase),
     }
 }

@@ -82,7 +82,11 @@ fn item_told(alloc: Global, item: &HookItem) -> Result<String, NoMemory> {
             grants,
             replace,
             ..
-        } => format!(in alloc; "Create {version} {} {} {replace}", parameters.len(), grants.len()),
+        } => format!(in alloc;
+            "Create {version} {} {} {replace}",
+            parameters.len(),
+            grants.len()
+        ),
         HookItem::Install {
             parameters,
             grants,

@@ -1,6 +1,7 @@
 //! Cases of typing: `BYTES = OPERANDS/LABELS`, how deep the only function of a module without imports goes, or where it
 //! isn't well typed.
 #![tactic(auto)]
+
 ghost use Rattle.std.specs.Prelude.{◌≡◌, []};
 ghost use Rattle.wa_ops.specs.Soundness.{IsSound};
 
