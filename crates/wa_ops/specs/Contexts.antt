@@ -10,12 +10,12 @@ use Rattle.wa_ops.specs.declared.modules.Module.{Module}
 use Rattle.wa_ops.specs.declared.modules.ModuleGlobal.{ModuleGlobal}
 use Rattle.wa_ops.specs.declared.op.ValueType.{ValueType}
 use Rattle.wa_ops.specs.Callees.{Callee, guard, accept, rollback, host_call}
-use Rattle.wa_ops.specs.Rows.{accept_row, guard_row, rollback_row, row_named, row_parameters}
+use Rattle.wa_ops.specs.Rows.{accept_row, guard_row, rollback_row, row_count, row_named, row_parameters}
 use Rattle.wa_ops.specs.Typing.{Context, GlobalType, and_then}
 
 -- what an import of this row is to the code; one of no row is a call past the table's end
 abbrev pub callee_of_row : Option ℕ → Callee
-callee_of_row None = host_call 65 []
+callee_of_row None = host_call row_count []
 callee_of_row (Some row) =
     if row == guard_row then guard else if row == accept_row then accept else
     if row == rollback_row then rollback else host_call row (row_parameters row)

@@ -1,5 +1,5 @@
 -- The table of API calls (this project's own): the call with the number n is row n, counted from 0.
-use Rattle.std.specs.Prelude.{ℕ, ◌==◌, List, [], ◌∷◌, ◌++◌, Bool, Option, Some, None, if◌then◌else◌, codes, replicate, slice_get}
+use Rattle.std.specs.Prelude.{ℕ, ◌==◌, List, [], ◌∷◌, ◌++◌, Bool, ◌||◌, Option, Some, None, if◌then◌else◌, codes, replicate, slice_get}
 use Rattle.std.specs.List.{position}
 use Rattle.std.specs.Option.{option_map_or}
 use Rattle.std.specs.Str.{bytes_eq}
@@ -97,6 +97,10 @@ api_calls =
     call (codes "emit") (narrow 4) ∷
     []
 
+-- how many rows there are: the number that no row has
+abbrev pub row_count : ℕ
+row_count = 65
+
 -- the calls that this machine treats itself: the guard `_g`, and the two that end a run
 abbrev pub guard_row : ℕ
 guard_row = 0
@@ -107,9 +111,9 @@ accept_row = 1
 abbrev pub rollback_row : ℕ
 rollback_row = 2
 
--- the rows that a hook may import so far
+-- the rows that a hook may import so far: all but `slot_set`, `slot_float` and `etxn_fee_base`
 abbrev pub is_listed : ℕ → Bool
-is_listed row = among 0 2 row
+is_listed row = among 0 45 row || among 47 52 row || among 54 62 row || row == 64
 
 abbrev pub if_listed : Option ℕ → Option ℕ
 if_listed None = None

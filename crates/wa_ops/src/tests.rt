@@ -78,7 +78,7 @@ fn calls_by_name(rt: HostRuntime) {
         (b"_g\0".as_slice(), None),
         (b"Accept".as_slice(), None),
         (b"rollbacks".as_slice(), None),
-        (b"emit".as_slice(), None),
+        (b"emit".as_slice(), Some(CallNo(64))),
     ];
     for (name, row) in rows {
         assert_eq!(rt; call_by_name(name), row);
