@@ -1,0 +1,11 @@
+pub mod Words
+pub mod Telling
+pub mod Queueing
+pub mod Due
+pub mod Falling
+pub mod Chaining
+pub mod Changing
+pub mod Taking
+pub mod Holding
+pub mod Applying
+pub mod Settling

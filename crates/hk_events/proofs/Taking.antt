@@ -1,0 +1,203 @@
+-- What a transaction takes and leaves, on the entries of a ledger.
+use Rattle.std.proofs.Common.{◌≡◌, ◌≢◌, ℕ, ◌+◌, ◌-◌, ◌≤◌, ◌==◌, ◌⊎◌, inl, inr, Bool, true, false, if◌then◌else◌, List, [], ◌∷◌, ◌++◌, append-nil, refl, sym, subst, arith, Option, Some, None}
+use Rattle.std.specs.FinMap.{get}
+use Rattle.std.proofs.lemmas.Bool.{ltb-false, eqb-true}
+use Rattle.hk_base.specs.declared.ids.AccountId.{AccountId}
+use Rattle.xo_object.specs.declared.transaction.Transaction.{Transaction}
+use Rattle.hk_lines.specs.declared.output_line.OutputLine.{OutputLine}
+use Rattle.hk_lines.specs.declared.result_name.ResultName.{ResultName}
+use Rattle.hk_lines.specs.declared.result_name.ResultName.TheVariants.{TooLong, Unparsed, Malformed, HookRejected, Success}
+use Rattle.hk_reading.specs.declared.reading.Reading.{Reading}
+use Rattle.hk_reading.specs.declared.reading.Reading.TheVariants as readings
+use Rattle.hk_reading.specs.Readings.{hook_kind}
+use Rattle.hk_state.specs.declared.entry.Holding.{Holding}
+use Rattle.hk_state.specs.declared.key.Key.{Key}
+use Rattle.hk_state.specs.declared.key.Key.TheVariants as key
+use Rattle.hk_state.specs.declared.key.StateKey.{StateKey}
+use Rattle.hk_state.specs.declared.ledger.Header.{Header}
+use Rattle.hk_state.specs.Keys.{as_key}
+use Rattle.hk_state.specs.Entries.{Entries}
+use Rattle.hk_state.specs.Holdings.{holding_at, get-with_holding}
+use Rattle.hk_state.specs.Balances.{balances, sum_with}
+use Rattle.hk_state.specs.Ledger.{LedgerValue}
+use Rattle.hk_state.specs.Rows.{none_applies, NoneApplies}
+use Rattle.hk_state.specs.Rules.{Effect, keeps, fails}
+use Rattle.hk_draft.specs.Lists.{Each}
+use Rattle.hk_draft.specs.Draft.{Draft, draft_on}
+use Rattle.hk_draft.specs.Ends.{ChainEnd, kept, rejected, ChainFits, Chained}
+use Rattle.hk_draft.specs.Extends.{Extends, HoldsState}
+use Rattle.hk_draft.specs.Writers.{IsWriter, HookRan, IsHook}
+use Rattle.hk_draft.proofs.Extended.{extends_itself, extends_further, extends_weaker}
+use Rattle.hk_events.specs.Engine.{Engine}
+use Rattle.hk_events.specs.Results.{Origin, refusal, refusal_rows, signature_rows, sequence_rows, window_rows, account_rows, next_sequence, paid, paid_from}
+use Rattle.hk_events.specs.Chains.{chains, sides}
+use Rattle.hk_events.specs.Items.{ItemEnd, leaves, stops, hooks_end}
+use Rattle.hk_events.specs.Performed.{Performed, refused, failed, succeeded, after_items, after_rules, after_chains, unless_refused, transaction}
+use Rattle.hk_events.specs.Confined.{DeletesBy}
+use Rattle.hk_events.specs.Whole.{is_account, sender_of}
+use Rattle.hk_events.specs.Lawful.{IsLawful}
+use Rattle.hk_events.proofs.Chaining.{chains_fit}
+use Rattle.hk_events.proofs.Changing.{IsDeleted, GoesOn, hooks_go}
+
+-- who may have written a key: a hook of the lines, or the owner by deleting its namespace
+abbrev pub Grounds : Entries → List OutputLine → (StateKey → Type 0) → StateKey → Type 0
+Grounds before records D q = IsWriter before (HookRan records) q ⊎ D q
+
+abbrev pub DeletedBy : Reading → StateKey → Type 0
+DeletedBy (readings.Transaction t) q = DeletesBy t q
+DeletedBy other q = ⊥
+
+-- on the entries m fee and sequence are taken, and all else goes on from there or is dropped
+pub record TakesBy (e : Engine) (seq : ℕ) (before m : Entries) (sender : Option AccountId) (D : StateKey → Type 0) (result : Option ResultName) (fee : ℕ) (draft : Draft) (records : List OutputLine) :
+    Type 0 where
+  pub base : Entries
+  pub same : (k : Key) → is_account k sender ≡ false → get base k ≡ get m k
+  pub sum : balances base + fee ≡ balances m
+  pub free : fee ≡ 0 → result ≢ Some Success → base ≡ m
+  pub extends : Extends e.reads_emitted seq (Grounds before records D) (draft_on base) draft
+  pub hooks : Each IsHook records
+  pub success : (result ≡ Some Success) ⊎ (draft ≡ draft_on base)
+
+abbrev pub Takes : Engine → ℕ → Entries → Entries → Option AccountId → (StateKey → Type 0) → Performed → Type 0
+Takes e seq before m sender D p = TakesBy e seq before m sender D (Some p.result) p.fee p.draft p.records
+
+refused_takes : (e : Engine) (seq : ℕ) (before m : Entries) (sender : Option AccountId) (D : StateKey → Type 0) (name : ResultName) →
+    Takes e seq before m sender D (refused m name)
+refused_takes e seq before m sender D name = record {
+  base = m;
+  same = λ k h. refl;
+  sum = omega arith;
+  free = λ none failing. refl;
+  extends = extends_itself e.reads_emitted seq (Grounds before [] D) (draft_on m);
+  hooks = tt;
+  success = inr refl;
+}
+
+-- of a transaction that isn't refused
+pub record Taken (m : Entries) (t : Transaction) (needed : ℕ) : Type 0 where
+  pub holding : Holding
+  pub at : holding_at m t.account ≡ Some holding
+  pub enough : needed ≤ t.fee
+  pub funded : t.fee ≤ holding.balance
+
+append_none : {R : Type 0} (xs ys : List (Bool × R)) → NoneApplies (xs ++ ys) → NoneApplies ys
+append_none [] ys h = h
+append_none (x ∷ xs) ys h = append_none xs ys h.1
+
+taken_rows : (m : Entries) (seq needed : ℕ) (origin : Origin) (t : Transaction) (found : Option Holding) →
+    holding_at m t.account ≡ found → NoneApplies (account_rows seq needed origin t found) → Taken m t needed
+taken_rows m seq needed origin t None at h = let bad : true ≡ false = h.0 in cc
+taken_rows m seq needed origin t (Some holding) at h =
+    let none = append_none (sequence_rows origin t holding) (window_rows seq needed t holding) h in
+    record { holding = holding; at = at; enough = ltb-false t.fee needed none.1.1.0; funded = ltb-false holding.balance t.fee none.1.1.1.0 }
+
+pub taken : (e : Engine) (before : Entries) (ledger : LedgerValue) (origin : Origin) (t : Transaction) →
+    refusal e before ledger origin t ≡ None → Taken ledger.entries t (e.needed_fee before t)
+taken e before ledger origin t h =
+    taken_rows ledger.entries ledger.header.seq (e.needed_fee before t) origin t (holding_at ledger.entries t.account) refl
+    (append_none (signature_rows origin) (account_rows ledger.header.seq (e.needed_fee before t) origin t (holding_at ledger.entries t.account))
+    (none_applies (refusal_rows e before ledger origin t) h))
+
+-- what fee and sequence leave
+pub record Pays (m base : Entries) (t : Transaction) : Type 0 where
+  pub same : (k : Key) → is_account k (Some t.account) ≡ false → get base k ≡ get m k
+  pub sum : balances base + t.fee ≡ balances m
+
+pays_from : (m : Entries) (needed : ℕ) (origin : Origin) (t : Transaction) → Taken m t needed → Pays m (paid m origin t) t
+pays_from m needed origin t is =
+    subst (λ found. Pays m (paid_from m origin t found) t) (sym is.at) (record {
+      same = λ k other. get-with_holding m t.account (is.holding.balance - t.fee) (next_sequence origin is.holding.sequence) k other;
+      sum =
+          let put = sum_with m t.account is.holding (is.holding.balance - t.fee) (next_sequence origin is.holding.sequence) is.at in
+          let fee = is.funded in omega (arith, put, fee);
+    })
+
+-- the effect of a transaction whose chains are kept
+module _ (e : Engine) (lawful : IsLawful e) (before m : Entries) (header : Header) (base : Entries) (t : Transaction) (pays : Pays m base t) (some : 1 ≤ t.fee) where
+  failed_takes : (name : ResultName) (records : List OutputLine) → Each IsHook records →
+      Takes e header.seq before m (Some t.account) (DeletesBy t) (failed base t name records)
+  failed_takes name records hooks = record {
+    base = base;
+    same = pays.same;
+    sum = pays.sum;
+    free = λ none failing. absurd (omega (arith, none, some));
+    extends = extends_itself e.reads_emitted header.seq (Grounds before records (DeletesBy t)) (draft_on base);
+    hooks = hooks;
+    success = inr refl;
+  }
+
+  succeeded_takes : (d : Draft) (records : List OutputLine) → Each IsHook records →
+      Extends e.reads_emitted header.seq (Grounds before records (DeletesBy t)) (draft_on base) d →
+      Takes e header.seq before m (Some t.account) (DeletesBy t) (succeeded t d records)
+  succeeded_takes d records hooks extends = record {
+    base = base;
+    same = pays.same;
+    sum = pays.sum;
+    free = λ none failing. absurd (failing refl);
+    extends = extends;
+    hooks = hooks;
+    success = inl refl;
+  }
+
+  module _ (d : Draft) (records : List OutputLine) (one : Chained e.reads_emitted header.seq before (draft_on base) d records) where
+    chained : Extends e.reads_emitted header.seq (Grounds before records (DeletesBy t)) (draft_on base) d
+    chained = extends_weaker e.reads_emitted header.seq (IsWriter before (HookRan records)) (Grounds before records (DeletesBy t)) (λ q w. inl w) (draft_on base) d one.extends
+
+    items_take : t.kind ≡ hook_kind → (x : ItemEnd) → GoesOn e.reads_emitted header.seq (IsDeleted t.account t.hooks) d x →
+        Takes e header.seq before m (Some t.account) (DeletesBy t) (after_items base t records x)
+    items_take kind (leaves b) goes =
+        succeeded_takes b records one.hooks
+        (extends_further e.reads_emitted header.seq (Grounds before records (DeletesBy t)) (draft_on base) d b chained
+        (extends_weaker e.reads_emitted header.seq (IsDeleted t.account t.hooks) (Grounds before records (DeletesBy t)) (λ q h. inr (kind, h)) d b goes))
+    items_take kind (stops name) goes = failed_takes name records one.hooks
+
+    ruled : (n : Entries) → e.rules header d.entries t ≡ keeps n →
+        Extends e.reads_emitted header.seq (Grounds before records (DeletesBy t)) d (record { entries = n; written = d.written; emissions = d.emissions })
+    ruled n is = record {
+      unlisted = λ q h. lawful.others header d.entries n t (as_key q) is refl;
+      listed = λ q h. h;
+      grounds = λ q h. inl h;
+      held = λ q h. subst HoldsState (sym (lawful.others header d.entries n t (as_key q) is refl)) h;
+      queue = λ k. lawful.others header d.entries n t (key.Emitted k) is refl;
+      more = [];
+      emissions = sym (append-nil d.emissions);
+      emits = tt;
+      sum = lawful.sums header d.entries n t is;
+    }
+
+    rules_take : (x : Effect) → e.rules header d.entries t ≡ x →
+        Takes e header.seq before m (Some t.account) (DeletesBy t) (after_rules base t records d x)
+    rules_take (keeps n) is =
+        succeeded_takes (record { entries = n; written = d.written; emissions = d.emissions }) records one.hooks
+        (extends_further e.reads_emitted header.seq (Grounds before records (DeletesBy t)) (draft_on base) d (record { entries = n; written = d.written; emissions = d.emissions }) chained (ruled n is))
+    rules_take (fails name) is = failed_takes name records one.hooks
+
+    effect_takes : (b : Bool) → (t.kind == hook_kind) ≡ b →
+        Takes e header.seq before m (Some t.account) (DeletesBy t) (if b then after_items base t records (hooks_end e t.account t.hooks d) else after_rules base t records d (e.rules header d.entries t))
+    effect_takes true is = items_take (eqb-true t.kind hook_kind is) (hooks_end e t.account t.hooks d) (hooks_go e.reads_emitted header.seq e t.account t.hooks d)
+    effect_takes false is = rules_take (e.rules header d.entries t) refl
+
+  chains_take : (x : ChainEnd) → ChainFits e.reads_emitted header.seq before (draft_on base) x →
+      Takes e header.seq before m (Some t.account) (DeletesBy t) (after_chains e header base t x)
+  chains_take (kept d records) one = effect_takes d records one (t.kind == hook_kind) refl
+  chains_take (rejected records) hooks = failed_takes HookRejected records hooks
+
+module _ (e : Engine) (lawful : IsLawful e) (before : Entries) (ledger : LedgerValue) where
+  performed_takes : (origin : Origin) (t : Transaction) (name : Option ResultName) → refusal e before ledger origin t ≡ name →
+      Takes e ledger.header.seq before ledger.entries (Some t.account) (DeletesBy t) (unless_refused e before ledger origin t name)
+  performed_takes origin t (Some name) is = refused_takes e ledger.header.seq before ledger.entries (Some t.account) (DeletesBy t) name
+  performed_takes origin t None is =
+      let takes = taken e before ledger origin t is in
+      let fees = lawful.fees before t in
+      let enough = takes.enough in
+      chains_take e lawful before ledger.entries ledger.header (paid ledger.entries origin t) t
+      (pays_from ledger.entries (e.needed_fee before t) origin t takes) (omega (arith, fees, enough))
+      (chains (e.chain ledger.header ledger.next before t) (sides t) (draft_on (paid ledger.entries origin t)))
+      (chains_fit e.reads_emitted ledger.header.seq before (e.chain ledger.header ledger.next before t) (lawful.chains ledger.header ledger.next before t) (sides t) (draft_on (paid ledger.entries origin t)))
+
+  pub transaction_takes : (origin : Origin) (reading : Reading) →
+      Takes e ledger.header.seq before ledger.entries (sender_of reading) (DeletedBy reading) (transaction e before ledger origin reading)
+  transaction_takes origin readings.TooLong = refused_takes e ledger.header.seq before ledger.entries None (λ q. ⊥) TooLong
+  transaction_takes origin readings.Unparsed = refused_takes e ledger.header.seq before ledger.entries None (λ q. ⊥) Unparsed
+  transaction_takes origin readings.Malformed = refused_takes e ledger.header.seq before ledger.entries None (λ q. ⊥) Malformed
+  transaction_takes origin (readings.Transaction t) = performed_takes origin t (refusal e before ledger origin t) refl

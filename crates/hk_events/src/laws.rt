@@ -1,0 +1,22 @@
+ghost use Rattle.hk_events.specs.Laws.{AppliedHolds, SettledHolds, DueFalls, SettlesWhileDue};
+
+/// A transaction changes State entries only as it may, changes all that it prints and nothing else, and keeps the queue
+/// good and the sum of all drops.
+pub fn applied_events()
+    ensures law { AppliedHolds }
+{}
+
+/// So does the settlement of a queued emission, with its callback.
+pub fn settled_events()
+    ensures law { SettledHolds }
+{}
+
+/// The settlement of the least due emission leaves the others due, and none more.
+pub fn due_falls()
+    ensures law { DueFalls }
+{}
+
+/// To settle the next emission while there is one is to settle those that were due at first.
+pub fn settles_while_due()
+    ensures law { SettlesWhileDue }
+{}

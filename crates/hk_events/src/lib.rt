@@ -1,0 +1,6 @@
+//! The events of a ledger with hooks. Definitions and their laws; no code of its own.
+#![tactic(auto)]
+
+mod laws;
+
+pub use laws::{applied_events, due_falls, settled_events, settles_while_due};
