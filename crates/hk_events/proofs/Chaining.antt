@@ -10,6 +10,7 @@ use Rattle.hk_draft.specs.Ends.{ChainEnd, kept, rejected, Chained, ChainFits}
 use Rattle.hk_draft.specs.Extends.{Extends}
 use Rattle.hk_draft.specs.Writers.{IsWriter, HookRan, IsHook, IsHookOf}
 use Rattle.hk_draft.proofs.Extended.{each-append, extends_itself, extends_further, extends_weaker, others_itself, others_further}
+use Rattle.hk_events.specs.Complete.{AreSized, SizesFit}
 use Rattle.hk_events.specs.Chains.{behind, onward, chains}
 use Rattle.hk_events.proofs.Words.{some-front, some-behind}
 
@@ -62,3 +63,16 @@ module _ (reads : List ℕ → Reading) (seq : ℕ) (before : Entries) where
       hooks = tt;
     }
     chains_fit (account ∷ accounts) a = onward_fits a (chain account a) (chains chain accounts) (fits account a) (chains_fit accounts)
+
+behind_sized : (a b : Draft) (records : List OutputLine) → (AreSized a.entries → AreSized b.entries) → (x : ChainEnd) → SizesFit b x → SizesFit a (behind records x)
+behind_sized a b records one (kept c more) two = λ sized. two (one sized)
+behind_sized a b records one (rejected more) two = tt
+
+onward_sized : (a : Draft) (x : ChainEnd) (later : Draft → ChainEnd) → SizesFit a x → ((b : Draft) → SizesFit b (later b)) → SizesFit a (onward x later)
+onward_sized a (kept b records) later one two = behind_sized a b records one (later b) (two b)
+onward_sized a (rejected records) later one two = tt
+
+module _ (chain : AccountId → Draft → ChainEnd) (fits : (account : AccountId) (a : Draft) → SizesFit a (chain account a)) where
+  pub chains_sized : (accounts : List AccountId) (a : Draft) → SizesFit a (chains chain accounts a)
+  chains_sized [] a = λ sized. sized
+  chains_sized (account ∷ accounts) a = onward_sized a (chain account a) (chains chain accounts) (fits account a) (chains_sized accounts)

@@ -5,7 +5,10 @@ pub mod Due
 pub mod Falling
 pub mod Chaining
 pub mod Changing
+pub mod Following
+pub mod Keeping
 pub mod Taking
 pub mod Holding
 pub mod Applying
 pub mod Settling
+pub mod Staying

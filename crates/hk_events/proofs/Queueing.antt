@@ -1,7 +1,7 @@
 -- Emissions that enter the queue.
 use Rattle.std.proofs.Common.{◌≡◌, ℕ, ◌+◌, ◌<◌, ◌==◌, Bool, true, false, cond, List, [], ◌∷◌, ◌++◌, length, refl, sym, ap, subst, ◌∙◌, arith, Option, Some, None}
 use Rattle.std.proofs.lemmas.Bool.{eq-eqb}
-use Rattle.std.specs.FinMap.{get, insert, get-insert}
+use Rattle.std.specs.FinMap.{get, insert, remove, get-insert, get-remove}
 use Rattle.hk_lines.specs.declared.output_line.OutputLine.{OutputLine}
 use Rattle.hk_lines.specs.declared.output_line.OutputLine.TheVariants as printed
 use Rattle.hk_reading.specs.declared.reading.Reading.{Reading}
@@ -61,6 +61,10 @@ queue_others next (e ∷ es) m k h =
     queue_others (next + 1) es (insert m (key.Emitted next) (queued e)) k h
     ∙ get-insert keys_total m (key.Emitted next) (queued e) k
     ∙ ap (λ b. cond b (Some (queued e)) (get m k)) (other_kind k next h)
+
+-- without an emission
+pub without_other : (m : Entries) (number : ℕ) (k : Key) → is_numbered k ≡ false → get (remove m (key.Emitted number)) k ≡ get m k
+without_other m number k h = get-remove keys_total m (key.Emitted number) k ∙ ap (λ b. cond b None (get m k)) (other_kind k number h)
 
 pub queue_sum : (next : ℕ) (es : List Emission) (m : Entries) → balances (with_queued next es m) ≡ balances m
 queue_sum next [] m = refl

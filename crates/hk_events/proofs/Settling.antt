@@ -35,8 +35,9 @@ use Rattle.hk_events.specs.Whole.{sender_of}
 use Rattle.hk_events.specs.Good.{IsGood, IsQueueGood}
 use Rattle.hk_events.specs.Lawful.{IsLawful}
 use Rattle.hk_events.specs.Laws.{Holds, SettledHolds, DueFalls, SettlesWhileDue, on_next, settled_while}
-use Rattle.hk_events.proofs.Queueing.{is_numbered, other_kind, other_number, no_number}
+use Rattle.hk_events.proofs.Queueing.{without_other, is_numbered, other_number, no_number}
 use Rattle.hk_events.proofs.Taking.{TakesBy, Grounds, DeletedBy, transaction_takes}
+use Rattle.hk_events.proofs.Following.{follows_itself}
 use Rattle.hk_events.proofs.Holding.{Starts, Ran, Called, Happens, event_happens, plain_number}
 use Rattle.hk_events.proofs.Applying.{state_aside, queue_aside, dropped_call, deleted_so}
 use Rattle.hk_events.proofs.Due.{passes, has, has_head, has_number, falls}
@@ -66,9 +67,6 @@ kept_call reads seq before s d records back =
 
 -- the entries without an emission
 module _ (m : Entries) (number : ℕ) where
-  without_other : (k : Key) → is_numbered k ≡ false → get (remove m (key.Emitted number)) k ≡ get m k
-  without_other k h = get-remove keys_total m (key.Emitted number) k ∙ ap (λ b. cond b None (get m k)) (other_kind k number h)
-
   without_number : (n : ℕ) → (n ≡ number → ⊥) → get (remove m (key.Emitted number)) (key.Emitted n) ≡ get m (key.Emitted n)
   without_number n differ = get-remove keys_total m (key.Emitted number) (key.Emitted n) ∙ ap (λ b. cond b None (get m (key.Emitted n))) (other_number n number differ)
 
@@ -96,6 +94,30 @@ one_test false h = absurd (omega (arith, h))
 same_test : (number n : ℕ) → 1 ≤ one_if (number == n) + 0 → n ≡ number
 same_test number n some = sym (eqb-true number n (one_test (number == n) some))
 
+module _ (e : Engine) (lawful : IsLawful e) (ledger : LedgerValue) (number : ℕ) (w : Waiting) where
+  abbrev reading_of : Reading
+  reading_of = e.reads_emitted w.blob
+
+  abbrev left_by : LedgerValue
+  left_by = without ledger number
+
+  pub settlement_takes : (late : Bool) → TakesBy e ledger.header.seq ledger.entries left_by.entries reading_of
+      (if late then expired left_by.entries else performed_as (transaction e ledger.entries left_by emitted reading_of)).result
+      (if late then expired left_by.entries else performed_as (transaction e ledger.entries left_by emitted reading_of)).fee
+      (if late then expired left_by.entries else performed_as (transaction e ledger.entries left_by emitted reading_of)).draft
+      (if late then expired left_by.entries else performed_as (transaction e ledger.entries left_by emitted reading_of)).records
+  settlement_takes true = record {
+    base = left_by.entries;
+    same = λ k h. refl;
+    sum = omega arith;
+    free = λ none failing. refl;
+    extends = extends_itself e.reads_emitted ledger.header.seq (Grounds ledger.entries [] (DeletedBy reading_of)) (draft_on left_by.entries);
+    hooks = tt;
+    success = inr refl;
+    follows = λ c. follows_itself e.checks left_by.entries;
+  }
+  settlement_takes false = transaction_takes e lawful ledger.entries left_by emitted reading_of
+
 -- the settlement of a number holds; it is gone, and all others are due as before
 pub record SettlesSo (e : Engine) (ledger : LedgerValue) (number : ℕ) (event : Event) (sender : Option AccountId) : Type 0 where
   pub holds : Holds e.reads_emitted ledger event (λ q. ⊥) sender
@@ -111,22 +133,6 @@ module _ (e : Engine) (lawful : IsLawful e) (ledger : LedgerValue) (good : IsGoo
   abbrev left : LedgerValue
   left = without ledger number
 
-  settlement_takes : (late : Bool) → TakesBy e ledger.header.seq ledger.entries left.entries (sender_of reading) (DeletedBy reading)
-      (if late then expired left.entries else performed_as (transaction e ledger.entries left emitted reading)).result
-      (if late then expired left.entries else performed_as (transaction e ledger.entries left emitted reading)).fee
-      (if late then expired left.entries else performed_as (transaction e ledger.entries left emitted reading)).draft
-      (if late then expired left.entries else performed_as (transaction e ledger.entries left emitted reading)).records
-  settlement_takes true = record {
-    base = left.entries;
-    same = λ k h. refl;
-    sum = omega arith;
-    free = λ none failing. refl;
-    extends = extends_itself e.reads_emitted ledger.header.seq (Grounds ledger.entries [] (DeletedBy reading)) (draft_on left.entries);
-    hooks = tt;
-    success = inr refl;
-  }
-  settlement_takes false = transaction_takes e lawful ledger.entries left emitted reading
-
   is_emission : IsEmission e.reads_emitted w.blob w.first w.last
   is_emission = (good number (entry.Emitted w.blob w.hash w.first w.last w.callback) there).1
 
@@ -134,7 +140,7 @@ module _ (e : Engine) (lawful : IsLawful e) (ledger : LedgerValue) (good : IsGoo
   none_deleted : (q : StateKey) → DeletedBy reading q → ⊥
   none_deleted q h = let by = subst (λ r. DeletedBy r q) is_emission.reads_so h in absurd (is_emission.other by.0)
 
-  module _ (s : Settled) (takes : TakesBy e ledger.header.seq ledger.entries left.entries (sender_of reading) (DeletedBy reading) s.result s.fee s.draft s.records) where
+  module _ (s : Settled) (takes : TakesBy e ledger.header.seq ledger.entries left.entries reading s.result s.fee s.draft s.records) where
     abbrev line : OutputLine
     line = printed.Settled number s.word s.result s.fee
 
@@ -191,7 +197,7 @@ module _ (e : Engine) (lawful : IsLawful e) (ledger : LedgerValue) (good : IsGoo
   waiting_holds : (late : Bool) (s : Settled) → s ≡ (if late then expired left.entries else performed_as (transaction e ledger.entries left emitted reading)) →
       SettlesSo e ledger number (settled_by left number s (called_back e ledger.entries left w s reading w.callback)) (sender_of reading)
   waiting_holds late s is =
-      called_holds s (subst (λ x. TakesBy e ledger.header.seq ledger.entries left.entries (sender_of reading) (DeletedBy reading) x.result x.fee x.draft x.records) (sym is) (settlement_takes late))
+      called_holds s (subst (λ x. TakesBy e ledger.header.seq ledger.entries left.entries reading x.result x.fee x.draft x.records) (sym is) (settlement_takes e lawful ledger number w late))
       reading w.callback
 
   settled_holds : SettlesSo e ledger number (settled_waiting e ledger.entries left number w) (sender_of reading)

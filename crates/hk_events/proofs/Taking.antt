@@ -1,5 +1,6 @@
 -- What a transaction takes and leaves, on the entries of a ledger.
-use Rattle.std.proofs.Common.{◌≡◌, ◌≢◌, ℕ, ◌+◌, ◌-◌, ◌≤◌, ◌==◌, ◌⊎◌, inl, inr, Bool, true, false, if◌then◌else◌, List, [], ◌∷◌, ◌++◌, append-nil, refl, sym, subst, arith, Option, Some, None}
+use Rattle.std.proofs.Common.{◌≡◌, ◌≢◌, ℕ, ◌+◌, ◌-◌, ◌≤◌, ◌==◌, ◌⊎◌, inl, inr, Bool, true, false, if◌then◌else◌, List, [], ◌∷◌, ◌++◌, append-nil, refl, sym, ap, subst, arith, Option, Some, None, IsSome}
+use Rattle.std.specs.Option.{is_some}
 use Rattle.std.specs.FinMap.{get}
 use Rattle.std.proofs.lemmas.Bool.{ltb-false, eqb-true}
 use Rattle.hk_base.specs.declared.ids.AccountId.{AccountId}
@@ -20,6 +21,7 @@ use Rattle.hk_state.specs.Entries.{Entries}
 use Rattle.hk_state.specs.Holdings.{holding_at, get-with_holding}
 use Rattle.hk_state.specs.Balances.{balances, sum_with}
 use Rattle.hk_state.specs.Ledger.{LedgerValue}
+use Rattle.hk_state.specs.Reserves.{may_change}
 use Rattle.hk_state.specs.Rows.{none_applies, NoneApplies}
 use Rattle.hk_state.specs.Rules.{Effect, keeps, fails}
 use Rattle.hk_draft.specs.Lists.{Each}
@@ -28,7 +30,8 @@ use Rattle.hk_draft.specs.Ends.{ChainEnd, kept, rejected, ChainFits, Chained}
 use Rattle.hk_draft.specs.Extends.{Extends, HoldsState}
 use Rattle.hk_draft.specs.Writers.{IsWriter, HookRan, IsHook}
 use Rattle.hk_draft.proofs.Extended.{extends_itself, extends_further, extends_weaker}
-use Rattle.hk_events.specs.Engine.{Engine}
+use Rattle.hk_events.specs.Complete.{IsComplete, IsCareful, ItemsFit, AreSized, SizesFit}
+use Rattle.hk_events.specs.Engine.{Engine, Checked}
 use Rattle.hk_events.specs.Results.{Origin, refusal, refusal_rows, signature_rows, sequence_rows, window_rows, account_rows, next_sequence, paid, paid_from}
 use Rattle.hk_events.specs.Chains.{chains, sides}
 use Rattle.hk_events.specs.Items.{ItemEnd, leaves, stops, hooks_end}
@@ -36,8 +39,10 @@ use Rattle.hk_events.specs.Performed.{Performed, refused, failed, succeeded, aft
 use Rattle.hk_events.specs.Confined.{DeletesBy}
 use Rattle.hk_events.specs.Whole.{is_account, sender_of}
 use Rattle.hk_events.specs.Lawful.{IsLawful}
-use Rattle.hk_events.proofs.Chaining.{chains_fit}
+use Rattle.hk_events.proofs.Chaining.{chains_fit, chains_sized}
 use Rattle.hk_events.proofs.Changing.{IsDeleted, GoesOn, hooks_go}
+use Rattle.hk_events.proofs.Following.{AccountsStay, Follows, follows_itself, follows_further, follows_same, follows_holding, follows_writes, complete_then, is_kept}
+use Rattle.hk_events.proofs.Keeping.{FollowsEnd, hooks_follow}
 
 -- who may have written a key: a hook of the lines, or the owner by deleting its namespace
 abbrev pub Grounds : Entries → List OutputLine → (StateKey → Type 0) → StateKey → Type 0
@@ -47,30 +52,39 @@ abbrev pub DeletedBy : Reading → StateKey → Type 0
 DeletedBy (readings.Transaction t) q = DeletesBy t q
 DeletedBy other q = ⊥
 
+-- complete entries before the event and now, and a reading that keeps them so
+pub record Completes (e : Engine) (before m : Entries) (reading : Reading) : Type 0 where
+  pub careful : IsCareful e
+  pub complete : IsComplete e.checks before
+  pub here : IsComplete e.checks m
+  pub accounts : AccountsStay before m
+  pub fit : ItemsFit reading
+
 -- on the entries m fee and sequence are taken, and all else goes on from there or is dropped
-pub record TakesBy (e : Engine) (seq : ℕ) (before m : Entries) (sender : Option AccountId) (D : StateKey → Type 0) (result : Option ResultName) (fee : ℕ) (draft : Draft) (records : List OutputLine) :
+pub record TakesBy (e : Engine) (seq : ℕ) (before m : Entries) (reading : Reading) (result : Option ResultName) (fee : ℕ) (draft : Draft) (records : List OutputLine) :
     Type 0 where
   pub base : Entries
-  pub same : (k : Key) → is_account k sender ≡ false → get base k ≡ get m k
+  pub same : (k : Key) → is_account k (sender_of reading) ≡ false → get base k ≡ get m k
   pub sum : balances base + fee ≡ balances m
   pub free : fee ≡ 0 → result ≢ Some Success → base ≡ m
-  pub extends : Extends e.reads_emitted seq (Grounds before records D) (draft_on base) draft
+  pub extends : Extends e.reads_emitted seq (Grounds before records (DeletedBy reading)) (draft_on base) draft
   pub hooks : Each IsHook records
   pub success : (result ≡ Some Success) ⊎ (draft ≡ draft_on base)
+  pub follows : Completes e before m reading → Follows e.checks m draft.entries
 
-abbrev pub Takes : Engine → ℕ → Entries → Entries → Option AccountId → (StateKey → Type 0) → Performed → Type 0
-Takes e seq before m sender D p = TakesBy e seq before m sender D (Some p.result) p.fee p.draft p.records
+abbrev pub Takes : Engine → ℕ → Entries → Entries → Reading → Performed → Type 0
+Takes e seq before m reading p = TakesBy e seq before m reading (Some p.result) p.fee p.draft p.records
 
-refused_takes : (e : Engine) (seq : ℕ) (before m : Entries) (sender : Option AccountId) (D : StateKey → Type 0) (name : ResultName) →
-    Takes e seq before m sender D (refused m name)
-refused_takes e seq before m sender D name = record {
+refused_takes : (e : Engine) (seq : ℕ) (before m : Entries) (reading : Reading) (name : ResultName) → Takes e seq before m reading (refused m name)
+refused_takes e seq before m reading name = record {
   base = m;
   same = λ k h. refl;
   sum = omega arith;
   free = λ none failing. refl;
-  extends = extends_itself e.reads_emitted seq (Grounds before [] D) (draft_on m);
+  extends = extends_itself e.reads_emitted seq (Grounds before [] (DeletedBy reading)) (draft_on m);
   hooks = tt;
   success = inr refl;
+  follows = λ c. follows_itself e.checks m;
 }
 
 -- of a transaction that isn't refused
@@ -99,23 +113,36 @@ taken e before ledger origin t h =
     (none_applies (refusal_rows e before ledger origin t) h))
 
 -- what fee and sequence leave
-pub record Pays (m base : Entries) (t : Transaction) : Type 0 where
+pub record Pays (checks : ℕ → List ℕ → Option Checked) (m base : Entries) (t : Transaction) : Type 0 where
   pub same : (k : Key) → is_account k (Some t.account) ≡ false → get base k ≡ get m k
   pub sum : balances base + t.fee ≡ balances m
+  pub follows : Follows checks m base
+  pub there : IsSome (holding_at m t.account)
 
-pays_from : (m : Entries) (needed : ℕ) (origin : Origin) (t : Transaction) → Taken m t needed → Pays m (paid m origin t) t
-pays_from m needed origin t is =
-    subst (λ found. Pays m (paid_from m origin t found) t) (sym is.at) (record {
+pays_from : (checks : ℕ → List ℕ → Option Checked) (m : Entries) (needed : ℕ) (origin : Origin) (t : Transaction) → Taken m t needed → Pays checks m (paid m origin t) t
+pays_from checks m needed origin t is =
+    subst (λ found. Pays checks m (paid_from m origin t found) t) (sym is.at) (record {
       same = λ k other. get-with_holding m t.account (is.holding.balance - t.fee) (next_sequence origin is.holding.sequence) k other;
       sum =
           let put = sum_with m t.account is.holding (is.holding.balance - t.fee) (next_sequence origin is.holding.sequence) is.at in
           let fee = is.funded in omega (arith, put, fee);
+      follows = follows_holding checks m t.account (is.holding.balance - t.fee) (next_sequence origin is.holding.sequence);
+      there = ap is_some is.at;
     })
 
+-- rules keep hooks and their state
+kept_by_rules : (k : Key) → is_kept k ≡ true → may_change k ≡ false
+kept_by_rules (key.Account id) h = cc
+kept_by_rules (key.Install owner position) h = refl
+kept_by_rules (key.Definition hash) h = refl
+kept_by_rules (key.State owner namespace k) h = refl
+kept_by_rules (key.Emitted n) h = cc
+kept_by_rules (key.Other bytes) h = cc
+
 -- the effect of a transaction whose chains are kept
-module _ (e : Engine) (lawful : IsLawful e) (before m : Entries) (header : Header) (base : Entries) (t : Transaction) (pays : Pays m base t) (some : 1 ≤ t.fee) where
+module _ (e : Engine) (lawful : IsLawful e) (before m : Entries) (header : Header) (base : Entries) (t : Transaction) (pays : Pays e.checks m base t) (some : 1 ≤ t.fee) where
   failed_takes : (name : ResultName) (records : List OutputLine) → Each IsHook records →
-      Takes e header.seq before m (Some t.account) (DeletesBy t) (failed base t name records)
+      Takes e header.seq before m (readings.Transaction t) (failed base t name records)
   failed_takes name records hooks = record {
     base = base;
     same = pays.same;
@@ -124,12 +151,14 @@ module _ (e : Engine) (lawful : IsLawful e) (before m : Entries) (header : Heade
     extends = extends_itself e.reads_emitted header.seq (Grounds before records (DeletesBy t)) (draft_on base);
     hooks = hooks;
     success = inr refl;
+    follows = λ c. pays.follows;
   }
 
   succeeded_takes : (d : Draft) (records : List OutputLine) → Each IsHook records →
       Extends e.reads_emitted header.seq (Grounds before records (DeletesBy t)) (draft_on base) d →
-      Takes e header.seq before m (Some t.account) (DeletesBy t) (succeeded t d records)
-  succeeded_takes d records hooks extends = record {
+      (Completes e before m (readings.Transaction t) → Follows e.checks m d.entries) →
+      Takes e header.seq before m (readings.Transaction t) (succeeded t d records)
+  succeeded_takes d records hooks extends follows = record {
     base = base;
     same = pays.same;
     sum = pays.sum;
@@ -137,19 +166,33 @@ module _ (e : Engine) (lawful : IsLawful e) (before m : Entries) (header : Heade
     extends = extends;
     hooks = hooks;
     success = inl refl;
+    follows = follows;
   }
 
-  module _ (d : Draft) (records : List OutputLine) (one : Chained e.reads_emitted header.seq before (draft_on base) d records) where
+  module _ (d : Draft) (records : List OutputLine) (one : Chained e.reads_emitted header.seq before (draft_on base) d records)
+      (sizes : IsCareful e → AreSized base → AreSized d.entries) where
+    chain_follows : Completes e before m (readings.Transaction t) → Follows e.checks m d.entries
+    chain_follows c =
+        follows_further e.checks m base d.entries pays.follows
+        (follows_writes e.checks e.reads_emitted header.seq before (HookRan records) (draft_on base) d refl one.extends one.others c.complete
+        (λ id h. pays.follows.accounts id (c.accounts id h))
+        (sizes c.careful (λ q x at. ((complete_then e.checks m base c.here pays.follows).states q x at).0)))
+
+    left_complete : Completes e before m (readings.Transaction t) → IsComplete e.checks d.entries
+    left_complete c = complete_then e.checks m d.entries c.here (chain_follows c)
+
     chained : Extends e.reads_emitted header.seq (Grounds before records (DeletesBy t)) (draft_on base) d
     chained = extends_weaker e.reads_emitted header.seq (IsWriter before (HookRan records)) (Grounds before records (DeletesBy t)) (λ q w. inl w) (draft_on base) d one.extends
 
     items_take : t.kind ≡ hook_kind → (x : ItemEnd) → GoesOn e.reads_emitted header.seq (IsDeleted t.account t.hooks) d x →
-        Takes e header.seq before m (Some t.account) (DeletesBy t) (after_items base t records x)
-    items_take kind (leaves b) goes =
+        (Completes e before m (readings.Transaction t) → FollowsEnd e t.account d x) →
+        Takes e header.seq before m (readings.Transaction t) (after_items base t records x)
+    items_take kind (leaves b) goes follows =
         succeeded_takes b records one.hooks
         (extends_further e.reads_emitted header.seq (Grounds before records (DeletesBy t)) (draft_on base) d b chained
         (extends_weaker e.reads_emitted header.seq (IsDeleted t.account t.hooks) (Grounds before records (DeletesBy t)) (λ q h. inr (kind, h)) d b goes))
-    items_take kind (stops name) goes = failed_takes name records one.hooks
+        (λ c. follows_further e.checks m d.entries b.entries (chain_follows c) (follows c))
+    items_take kind (stops name) goes follows = failed_takes name records one.hooks
 
     ruled : (n : Entries) → e.rules header d.entries t ≡ keeps n →
         Extends e.reads_emitted header.seq (Grounds before records (DeletesBy t)) d (record { entries = n; written = d.written; emissions = d.emissions })
@@ -166,38 +209,42 @@ module _ (e : Engine) (lawful : IsLawful e) (before m : Entries) (header : Heade
     }
 
     rules_take : (x : Effect) → e.rules header d.entries t ≡ x →
-        Takes e header.seq before m (Some t.account) (DeletesBy t) (after_rules base t records d x)
+        Takes e header.seq before m (readings.Transaction t) (after_rules base t records d x)
     rules_take (keeps n) is =
         succeeded_takes (record { entries = n; written = d.written; emissions = d.emissions }) records one.hooks
         (extends_further e.reads_emitted header.seq (Grounds before records (DeletesBy t)) (draft_on base) d (record { entries = n; written = d.written; emissions = d.emissions }) chained (ruled n is))
+        (λ c. follows_further e.checks m d.entries n (chain_follows c)
+        (follows_same e.checks d.entries n (λ k h. lawful.others header d.entries n t k is (kept_by_rules k h)) (λ id h. lawful.accounts header d.entries n t id is h)))
     rules_take (fails name) is = failed_takes name records one.hooks
 
     effect_takes : (b : Bool) → (t.kind == hook_kind) ≡ b →
-        Takes e header.seq before m (Some t.account) (DeletesBy t) (if b then after_items base t records (hooks_end e t.account t.hooks d) else after_rules base t records d (e.rules header d.entries t))
+        Takes e header.seq before m (readings.Transaction t) (if b then after_items base t records (hooks_end e t.account t.hooks d) else after_rules base t records d (e.rules header d.entries t))
     effect_takes true is = items_take (eqb-true t.kind hook_kind is) (hooks_end e t.account t.hooks d) (hooks_go e.reads_emitted header.seq e t.account t.hooks d)
+        (λ c. hooks_follow e t.account t.hooks d c.fit.0 c.fit.1 ((chain_follows c).accounts t.account pays.there) (left_complete c))
     effect_takes false is = rules_take (e.rules header d.entries t) refl
 
-  chains_take : (x : ChainEnd) → ChainFits e.reads_emitted header.seq before (draft_on base) x →
-      Takes e header.seq before m (Some t.account) (DeletesBy t) (after_chains e header base t x)
-  chains_take (kept d records) one = effect_takes d records one (t.kind == hook_kind) refl
-  chains_take (rejected records) hooks = failed_takes HookRejected records hooks
+  chains_take : (x : ChainEnd) → ChainFits e.reads_emitted header.seq before (draft_on base) x → (IsCareful e → SizesFit (draft_on base) x) →
+      Takes e header.seq before m (readings.Transaction t) (after_chains e header base t x)
+  chains_take (kept d records) one sizes = effect_takes d records one sizes (t.kind == hook_kind) refl
+  chains_take (rejected records) hooks sizes = failed_takes HookRejected records hooks
 
 module _ (e : Engine) (lawful : IsLawful e) (before : Entries) (ledger : LedgerValue) where
   performed_takes : (origin : Origin) (t : Transaction) (name : Option ResultName) → refusal e before ledger origin t ≡ name →
-      Takes e ledger.header.seq before ledger.entries (Some t.account) (DeletesBy t) (unless_refused e before ledger origin t name)
-  performed_takes origin t (Some name) is = refused_takes e ledger.header.seq before ledger.entries (Some t.account) (DeletesBy t) name
+      Takes e ledger.header.seq before ledger.entries (readings.Transaction t) (unless_refused e before ledger origin t name)
+  performed_takes origin t (Some name) is = refused_takes e ledger.header.seq before ledger.entries (readings.Transaction t) name
   performed_takes origin t None is =
       let takes = taken e before ledger origin t is in
       let fees = lawful.fees before t in
       let enough = takes.enough in
       chains_take e lawful before ledger.entries ledger.header (paid ledger.entries origin t) t
-      (pays_from ledger.entries (e.needed_fee before t) origin t takes) (omega (arith, fees, enough))
+      (pays_from e.checks ledger.entries (e.needed_fee before t) origin t takes) (omega (arith, fees, enough))
       (chains (e.chain ledger.header ledger.next before t) (sides t) (draft_on (paid ledger.entries origin t)))
       (chains_fit e.reads_emitted ledger.header.seq before (e.chain ledger.header ledger.next before t) (lawful.chains ledger.header ledger.next before t) (sides t) (draft_on (paid ledger.entries origin t)))
+      (λ careful. chains_sized (e.chain ledger.header ledger.next before t) (careful.chains ledger.header ledger.next before t) (sides t) (draft_on (paid ledger.entries origin t)))
 
   pub transaction_takes : (origin : Origin) (reading : Reading) →
-      Takes e ledger.header.seq before ledger.entries (sender_of reading) (DeletedBy reading) (transaction e before ledger origin reading)
-  transaction_takes origin readings.TooLong = refused_takes e ledger.header.seq before ledger.entries None (λ q. ⊥) TooLong
-  transaction_takes origin readings.Unparsed = refused_takes e ledger.header.seq before ledger.entries None (λ q. ⊥) Unparsed
-  transaction_takes origin readings.Malformed = refused_takes e ledger.header.seq before ledger.entries None (λ q. ⊥) Malformed
+      Takes e ledger.header.seq before ledger.entries reading (transaction e before ledger origin reading)
+  transaction_takes origin readings.TooLong = refused_takes e ledger.header.seq before ledger.entries readings.TooLong TooLong
+  transaction_takes origin readings.Unparsed = refused_takes e ledger.header.seq before ledger.entries readings.Unparsed Unparsed
+  transaction_takes origin readings.Malformed = refused_takes e ledger.header.seq before ledger.entries readings.Malformed Malformed
   transaction_takes origin (readings.Transaction t) = performed_takes origin t (refusal e before ledger origin t) refl

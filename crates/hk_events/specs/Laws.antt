@@ -14,6 +14,7 @@ use Rattle.hk_events.specs.Settled.{Opened, settled, settled_all, settle_next, a
 use Rattle.hk_events.specs.Confined.{IsConfined, Deletes}
 use Rattle.hk_events.specs.Whole.{IsWholeOrNothing, sender_of}
 use Rattle.hk_events.specs.Good.{IsGood}
+use Rattle.hk_events.specs.Complete.{IsComplete, IsCareful}
 use Rattle.hk_events.specs.Lawful.{IsLawful}
 
 -- an event is confined, and whole or nothing; the queue stays good; and no drop comes or goes
@@ -58,3 +59,12 @@ pub record SettlesAll (e : Engine) (ledger : LedgerValue) : Type 0 where
 
 abbrev pub SettlesWhileDue : Type 0
 SettlesWhileDue = (e : Engine) (ledger : LedgerValue) → IsLawful e → IsGood e.reads_emitted ledger → SettlesAll e ledger
+
+-- hooks and their state stay complete
+pub record StaysSo (e : Engine) (ledger : LedgerValue) : Type 0 where
+  pub applied_so : (verdict : Verdict) (blob : List ℕ) → IsComplete e.checks (applied e ledger verdict blob).ledger.entries
+  pub settled_so : (number : ℕ) → IsComplete e.checks (settled e ledger number).ledger.entries
+
+abbrev pub StaysComplete : Type 0
+StaysComplete = (e : Engine) (ledger : LedgerValue) → IsLawful e → IsCareful e → IsGood e.reads_emitted ledger →
+    IsComplete e.checks ledger.entries → StaysSo e ledger

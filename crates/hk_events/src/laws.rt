@@ -1,4 +1,4 @@
-ghost use Rattle.hk_events.specs.Laws.{AppliedHolds, SettledHolds, DueFalls, SettlesWhileDue};
+ghost use Rattle.hk_events.specs.Laws.{AppliedHolds, SettledHolds, DueFalls, SettlesWhileDue, StaysComplete};
 
 /// A transaction changes State entries only as it may, changes all that it prints and nothing else, and keeps the queue
 /// good and the sum of all drops.
@@ -19,4 +19,9 @@ pub fn due_falls()
 /// To settle the next emission while there is one is to settle those that were due at first.
 pub fn settles_while_due()
     ensures law { SettlesWhileDue }
+{}
+
+/// Each event keeps what a ledger has of hooks complete: accepted Definitions, Installs of them, State entries of accounts.
+pub fn stays_complete()
+    ensures law { StaysComplete }
 {}

@@ -3,4 +3,4 @@
 
 mod laws;
 
-pub use laws::{applied_events, due_falls, settled_events, settles_while_due};
+pub use laws::{applied_events, due_falls, settled_events, settles_while_due, stays_complete};
