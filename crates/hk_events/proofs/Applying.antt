@@ -48,7 +48,7 @@ dropped_call reads seq before s records calls = record {
 }
 
 module _ (e : Engine) (ledger : LedgerValue) (reading : Reading) (good : IsGood e.reads_emitted ledger) (p : Performed)
-    (takes : Takes e ledger.header.seq ledger.entries ledger.entries reading p) where
+    (takes : Takes e ledger.header.seq ledger.next ledger.entries ledger.entries reading p) where
   starts : Starts e.reads_emitted ledger takes.base [] (sender_of reading) p.fee (Some p.result)
   starts = record {
     fronts = tt;

@@ -78,7 +78,7 @@ each_given P h all (x ∷ xs) =
     ] refl
 
 -- of the account, in the namespace
-abbrev IsIn : AccountId → Hash256 → StateKey → Type 0
+abbrev pub IsIn : AccountId → Hash256 → StateKey → Type 0
 IsIn owner namespace q = (owner ≡ q.owner) × (namespace ≡ q.namespace)
 
 module _ (owner : AccountId) (namespace : Hash256) where
@@ -174,7 +174,7 @@ module _ (reads : List ℕ → Reading) (seq : ℕ) (e : Engine) (owner : Accoun
   later_goes i is a (leaves b) one = extends_weaker reads seq (IsDeleted owner is) (IsDeleted owner (i ∷ is)) (λ q h. (h.0, inr h.1)) a b one
   later_goes i is a (stops name) one = tt
 
-  items_go : (position : ℕ) (is : List HookItem) (a : Draft) → GoesOn reads seq (IsDeleted owner is) a (items_end e owner position is a)
+  pub items_go : (position : ℕ) (is : List HookItem) (a : Draft) → GoesOn reads seq (IsDeleted owner is) a (items_end e owner position is a)
   items_go position [] a = extends_itself reads seq (IsDeleted owner []) a
   items_go position (i ∷ is) a =
       then_goes reads seq (IsDeleted owner (i ∷ is)) a (item_end e owner position i a) (items_end e owner (position + 1) is)

@@ -1,25 +1,24 @@
 -- Entries that follow on others: what is new of hooks and their state is as it has to be, and accounts and Definitions stay.
-use Rattle.std.proofs.Common.{◌≡◌, ℕ, ◌+◌, ◌<◌, ◌≤◌, ◌⊎◌, inl, inr, Bool, true, false, cond, List, [], refl, sym, ap, subst, ◌∙◌, arith, Option, Some, None, IsSome}
+use Rattle.std.proofs.Common.{◌≡◌, ℕ, ◌⊎◌, inl, inr, Bool, true, false, cond, List, [], refl, sym, ap, subst, ◌∙◌, Option, Some, None, IsSome}
 use Rattle.std.specs.FinMap.{get, insert, remove, get-insert, get-remove}
 use Rattle.hk_base.specs.declared.ids.AccountId.{AccountId}
 use Rattle.hk_base.specs.declared.ids.Hash256.{Hash256}
 use Rattle.hk_reading.specs.declared.reading.Reading.{Reading}
 use Rattle.hk_emit.specs.declared.emission.Emission.{Emission}
-use Rattle.hk_lines.specs.declared.output_line.OutputLine.{OutputLine}
 use Rattle.hk_state.specs.declared.entry.Entry.{Entry}
 use Rattle.hk_state.specs.declared.entry.Entry.TheVariants as entry
 use Rattle.hk_state.specs.declared.key.Key.{Key}
 use Rattle.hk_state.specs.declared.key.Key.TheVariants as key
 use Rattle.hk_state.specs.declared.key.StateKey.{StateKey}
 use Rattle.hk_state.specs.Keys.{is_key, as_key, keys_total, exact}
-use Rattle.hk_state.specs.Entries.{Entries, write, get-write}
+use Rattle.hk_state.specs.Entries.{Entries}
 use Rattle.hk_state.specs.Holdings.{as_holding, holding_at, with_holding, get-with_holding, stays}
 use Rattle.hk_draft.specs.Draft.{Draft, is_listed}
-use Rattle.hk_draft.specs.Extends.{Extends, KeepsOthers, HoldsState}
-use Rattle.hk_draft.specs.Writers.{IsWriter, MayWrite, IsGranted, hash_of}
+use Rattle.hk_draft.specs.Extends.{Extends, KeepsOthers}
+use Rattle.hk_draft.specs.Writers.{IsWriter, MayWrite, hash_of}
 use Rattle.hk_events.specs.Engine.{Checked}
 use Rattle.hk_events.specs.Events.{with_queued}
-use Rattle.hk_events.specs.Complete.{IsDefinition, IsInstall, IsState, IsSized, AreSized, IsComplete}
+use Rattle.hk_events.specs.Complete.{IsDefinition, IsInstall, IsState, AreSized, IsComplete}
 use Rattle.hk_events.proofs.Queueing.{is_numbered, queue_others, without_other}
 
 abbrev pub AccountsStay : Entries → Entries → Type 0

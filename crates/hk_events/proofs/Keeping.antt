@@ -1,5 +1,5 @@
 -- Hooks and their state stay complete through the items of a change of hooks.
-use Rattle.std.proofs.Common.{◌≡◌, ℕ, ◌+◌, ◌<◌, ◌≤◌, ◌⊎◌, inl, inr, Bool, true, false, cond, if◌then◌else◌, List, [], ◌∷◌, length, refl, sym, ap, subst, ◌∙◌, arith, Option, Some, None, IsSome}
+use Rattle.std.proofs.Common.{◌≡◌, ℕ, ◌+◌, ◌<◌, ◌≤◌, Bool, true, false, cond, if◌then◌else◌, List, [], ◌∷◌, length, refl, sym, ap, subst, ◌∙◌, arith, Option, Some, None, IsSome}
 use Rattle.std.specs.Option.{unwrap_or}
 use Rattle.std.specs.FinMap.{get, insert, get-insert}
 use Rattle.hk_base.specs.declared.ids.AccountId.{AccountId}
@@ -14,15 +14,14 @@ use Rattle.hk_state.specs.declared.entry.Entry.{Entry}
 use Rattle.hk_state.specs.declared.entry.Entry.TheVariants as entry
 use Rattle.hk_state.specs.declared.key.Key.TheVariants as key
 use Rattle.hk_state.specs.declared.key.StateKey.{StateKey}
-use Rattle.hk_state.specs.Keys.{is_key, as_key, keys_total, itself}
-use Rattle.hk_state.specs.Entries.{Entries}
+use Rattle.hk_state.specs.Keys.{as_key, keys_total, itself}
 use Rattle.hk_state.specs.Fees.{positions}
 use Rattle.hk_state.specs.Holdings.{holding_at}
 use Rattle.hk_draft.specs.Lists.{Each}
 use Rattle.hk_draft.specs.Draft.{Draft, erased}
 use Rattle.hk_events.specs.Engine.{Engine, Checked}
-use Rattle.hk_events.specs.Complete.{IsDefinition, IsInstall, IsComplete, AreParameters, AreGrants, IfGiven, IsItem}
-use Rattle.hk_events.specs.Items.{ItemEnd, leaves, stops, put_entry, cut_entry, keys_in, all_erased, has_entry, is_occupied, defined, created, updated, item_end, then_items, items_end, is_short, reserved, hooks_end}
+use Rattle.hk_events.specs.Complete.{IsComplete, AreParameters, AreGrants, IfGiven, IsItem}
+use Rattle.hk_events.specs.Items.{ItemEnd, leaves, stops, put_entry, keys_in, all_erased, has_entry, is_occupied, defined, created, updated, item_end, then_items, items_end, is_short, reserved, hooks_end}
 use Rattle.hk_events.proofs.Following.{Follows, follows_itself, follows_further, complete_then, follows_removal, follows_install, follows_definition}
 
 given_so : {X : Type 0} (P : X → Type 0) (given : Option X) (was : X) → IfGiven P given → P was → P (unwrap_or given was)

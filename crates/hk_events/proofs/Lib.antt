@@ -7,6 +7,7 @@ pub mod Chaining
 pub mod Changing
 pub mod Following
 pub mod Keeping
+pub mod Limiting
 pub mod Taking
 pub mod Holding
 pub mod Applying

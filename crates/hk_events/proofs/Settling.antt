@@ -35,7 +35,7 @@ use Rattle.hk_events.specs.Whole.{sender_of}
 use Rattle.hk_events.specs.Good.{IsGood, IsQueueGood}
 use Rattle.hk_events.specs.Lawful.{IsLawful}
 use Rattle.hk_events.specs.Laws.{Holds, SettledHolds, DueFalls, SettlesWhileDue, on_next, settled_while}
-use Rattle.hk_events.proofs.Queueing.{without_other, is_numbered, other_number, no_number}
+use Rattle.hk_events.proofs.Queueing.{without_other, other_number, no_number}
 use Rattle.hk_events.proofs.Taking.{TakesBy, Grounds, DeletedBy, transaction_takes}
 use Rattle.hk_events.proofs.Following.{follows_itself}
 use Rattle.hk_events.proofs.Holding.{Starts, Ran, Called, Happens, event_happens, plain_number}
@@ -73,7 +73,7 @@ module _ (m : Entries) (number : ℕ) where
   without_itself : get (remove m (key.Emitted number)) (key.Emitted number) ≡ None
   without_itself = get-remove keys_total m (key.Emitted number) (key.Emitted number) ∙ ap (λ b. cond b None (get m (key.Emitted number))) (itself (key.Emitted number))
 
-  without_sum : balances (remove m (key.Emitted number)) ≡ balances m
+  pub without_sum : balances (remove m (key.Emitted number)) ≡ balances m
   without_sum = let rest = sum-remove worth m (key.Emitted number) in let none = no_number (get m (key.Emitted number)) number in omega (arith, rest, none)
 
   still_there : (k : Key) (x : Entry) (b : Bool) → cond b None (get m k) ≡ Some x → get m k ≡ Some x
@@ -101,7 +101,7 @@ module _ (e : Engine) (lawful : IsLawful e) (ledger : LedgerValue) (number : ℕ
   abbrev left_by : LedgerValue
   left_by = without ledger number
 
-  pub settlement_takes : (late : Bool) → TakesBy e ledger.header.seq ledger.entries left_by.entries reading_of
+  pub settlement_takes : (late : Bool) → TakesBy e ledger.header.seq ledger.next ledger.entries left_by.entries reading_of
       (if late then expired left_by.entries else performed_as (transaction e ledger.entries left_by emitted reading_of)).result
       (if late then expired left_by.entries else performed_as (transaction e ledger.entries left_by emitted reading_of)).fee
       (if late then expired left_by.entries else performed_as (transaction e ledger.entries left_by emitted reading_of)).draft
@@ -115,6 +115,7 @@ module _ (e : Engine) (lawful : IsLawful e) (ledger : LedgerValue) (number : ℕ
     hooks = tt;
     success = inr refl;
     follows = λ c. follows_itself e.checks left_by.entries;
+    limits = λ measured. record { within = λ most sum within. within; room = λ room. omega (arith, room) };
   }
   settlement_takes false = transaction_takes e lawful ledger.entries left_by emitted reading_of
 
@@ -140,7 +141,7 @@ module _ (e : Engine) (lawful : IsLawful e) (ledger : LedgerValue) (good : IsGoo
   none_deleted : (q : StateKey) → DeletedBy reading q → ⊥
   none_deleted q h = let by = subst (λ r. DeletedBy r q) is_emission.reads_so h in absurd (is_emission.other by.0)
 
-  module _ (s : Settled) (takes : TakesBy e ledger.header.seq ledger.entries left.entries reading s.result s.fee s.draft s.records) where
+  module _ (s : Settled) (takes : TakesBy e ledger.header.seq ledger.next ledger.entries left.entries reading s.result s.fee s.draft s.records) where
     abbrev line : OutputLine
     line = printed.Settled number s.word s.result s.fee
 
@@ -197,7 +198,7 @@ module _ (e : Engine) (lawful : IsLawful e) (ledger : LedgerValue) (good : IsGoo
   waiting_holds : (late : Bool) (s : Settled) → s ≡ (if late then expired left.entries else performed_as (transaction e ledger.entries left emitted reading)) →
       SettlesSo e ledger number (settled_by left number s (called_back e ledger.entries left w s reading w.callback)) (sender_of reading)
   waiting_holds late s is =
-      called_holds s (subst (λ x. TakesBy e ledger.header.seq ledger.entries left.entries reading x.result x.fee x.draft x.records) (sym is) (settlement_takes e lawful ledger number w late))
+      called_holds s (subst (λ x. TakesBy e ledger.header.seq ledger.next ledger.entries left.entries reading x.result x.fee x.draft x.records) (sym is) (settlement_takes e lawful ledger number w late))
       reading w.callback
 
   settled_holds : SettlesSo e ledger number (settled_waiting e ledger.entries left number w) (sender_of reading)

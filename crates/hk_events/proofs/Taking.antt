@@ -1,9 +1,8 @@
 -- What a transaction takes and leaves, on the entries of a ledger.
-use Rattle.std.proofs.Common.{◌≡◌, ◌≢◌, ℕ, ◌+◌, ◌-◌, ◌≤◌, ◌==◌, ◌⊎◌, inl, inr, Bool, true, false, if◌then◌else◌, List, [], ◌∷◌, ◌++◌, append-nil, refl, sym, ap, subst, arith, Option, Some, None, IsSome}
+use Rattle.std.proofs.Common.{◌≡◌, ◌≢◌, ℕ, ◌+◌, ◌-◌, ◌≤◌, ◌==◌, ◌⊎◌, inl, inr, Bool, true, false, if◌then◌else◌, List, [], ◌∷◌, ◌++◌, length, append-nil, refl, sym, ap, subst, arith, Option, Some, None, IsSome}
 use Rattle.std.specs.Option.{is_some}
 use Rattle.std.specs.FinMap.{get}
 use Rattle.std.proofs.lemmas.Bool.{ltb-false, eqb-true}
-use Rattle.hk_base.specs.declared.ids.AccountId.{AccountId}
 use Rattle.xo_object.specs.declared.transaction.Transaction.{Transaction}
 use Rattle.hk_lines.specs.declared.output_line.OutputLine.{OutputLine}
 use Rattle.hk_lines.specs.declared.result_name.ResultName.{ResultName}
@@ -31,6 +30,7 @@ use Rattle.hk_draft.specs.Extends.{Extends, HoldsState}
 use Rattle.hk_draft.specs.Writers.{IsWriter, HookRan, IsHook}
 use Rattle.hk_draft.proofs.Extended.{extends_itself, extends_further, extends_weaker}
 use Rattle.hk_events.specs.Complete.{IsComplete, IsCareful, ItemsFit, AreSized, SizesFit}
+use Rattle.hk_events.specs.Limits.{IsMeasured, AreWithin, Fit, most_number}
 use Rattle.hk_events.specs.Engine.{Engine, Checked}
 use Rattle.hk_events.specs.Results.{Origin, refusal, refusal_rows, signature_rows, sequence_rows, window_rows, account_rows, next_sequence, paid, paid_from}
 use Rattle.hk_events.specs.Chains.{chains, sides}
@@ -42,6 +42,7 @@ use Rattle.hk_events.specs.Lawful.{IsLawful}
 use Rattle.hk_events.proofs.Chaining.{chains_fit, chains_sized}
 use Rattle.hk_events.proofs.Changing.{IsDeleted, GoesOn, hooks_go}
 use Rattle.hk_events.proofs.Following.{AccountsStay, Follows, follows_itself, follows_further, follows_same, follows_holding, follows_writes, complete_then, is_kept}
+use Rattle.hk_events.proofs.Limiting.{IsLimited, ReservesEnd, EmitsEnd, hooks_within, hooks_emit, chains_measured, own_account, own_ruled, same_within}
 use Rattle.hk_events.proofs.Keeping.{FollowsEnd, hooks_follow}
 
 -- who may have written a key: a hook of the lines, or the owner by deleting its namespace
@@ -61,7 +62,7 @@ pub record Completes (e : Engine) (before m : Entries) (reading : Reading) : Typ
   pub fit : ItemsFit reading
 
 -- on the entries m fee and sequence are taken, and all else goes on from there or is dropped
-pub record TakesBy (e : Engine) (seq : ℕ) (before m : Entries) (reading : Reading) (result : Option ResultName) (fee : ℕ) (draft : Draft) (records : List OutputLine) :
+pub record TakesBy (e : Engine) (seq next : ℕ) (before m : Entries) (reading : Reading) (result : Option ResultName) (fee : ℕ) (draft : Draft) (records : List OutputLine) :
     Type 0 where
   pub base : Entries
   pub same : (k : Key) → is_account k (sender_of reading) ≡ false → get base k ≡ get m k
@@ -71,12 +72,13 @@ pub record TakesBy (e : Engine) (seq : ℕ) (before m : Entries) (reading : Read
   pub hooks : Each IsHook records
   pub success : (result ≡ Some Success) ⊎ (draft ≡ draft_on base)
   pub follows : Completes e before m reading → Follows e.checks m draft.entries
+  pub limits : IsMeasured e → IsLimited e next m draft
 
-abbrev pub Takes : Engine → ℕ → Entries → Entries → Reading → Performed → Type 0
-Takes e seq before m reading p = TakesBy e seq before m reading (Some p.result) p.fee p.draft p.records
+abbrev pub Takes : Engine → ℕ → ℕ → Entries → Entries → Reading → Performed → Type 0
+Takes e seq next before m reading p = TakesBy e seq next before m reading (Some p.result) p.fee p.draft p.records
 
-refused_takes : (e : Engine) (seq : ℕ) (before m : Entries) (reading : Reading) (name : ResultName) → Takes e seq before m reading (refused m name)
-refused_takes e seq before m reading name = record {
+refused_takes : (e : Engine) (seq next : ℕ) (before m : Entries) (reading : Reading) (name : ResultName) → Takes e seq next before m reading (refused m name)
+refused_takes e seq next before m reading name = record {
   base = m;
   same = λ k h. refl;
   sum = omega arith;
@@ -85,6 +87,7 @@ refused_takes e seq before m reading name = record {
   hooks = tt;
   success = inr refl;
   follows = λ c. follows_itself e.checks m;
+  limits = λ measured. record { within = λ most sum within. within; room = λ room. omega (arith, room) };
 }
 
 -- of a transaction that isn't refused
@@ -140,9 +143,15 @@ kept_by_rules (key.Emitted n) h = cc
 kept_by_rules (key.Other bytes) h = cc
 
 -- the effect of a transaction whose chains are kept
-module _ (e : Engine) (lawful : IsLawful e) (before m : Entries) (header : Header) (base : Entries) (t : Transaction) (pays : Pays e.checks m base t) (some : 1 ≤ t.fee) where
+module _ (e : Engine) (lawful : IsLawful e) (before m : Entries) (header : Header) (next : ℕ) (base : Entries) (t : Transaction) (pays : Pays e.checks m base t) (some : 1 ≤ t.fee) where
+  paid_within : IsMeasured e → (most : ℕ) → AreWithin e.reserve most m → AreWithin e.reserve most base
+  paid_within measured most within = same_within e.reserve measured.reserves most m base (λ id k h. pays.same k (own_account id k h (Some t.account))) within
+
+  paid_sum : (most : ℕ) → balances m ≤ most → balances base ≤ most
+  paid_sum most fits = let sum = pays.sum in omega (arith, sum, fits)
+
   failed_takes : (name : ResultName) (records : List OutputLine) → Each IsHook records →
-      Takes e header.seq before m (readings.Transaction t) (failed base t name records)
+      Takes e header.seq next before m (readings.Transaction t) (failed base t name records)
   failed_takes name records hooks = record {
     base = base;
     same = pays.same;
@@ -152,13 +161,14 @@ module _ (e : Engine) (lawful : IsLawful e) (before m : Entries) (header : Heade
     hooks = hooks;
     success = inr refl;
     follows = λ c. pays.follows;
+    limits = λ measured. record { within = λ most sum within. paid_within measured most within; room = λ room. omega (arith, room) };
   }
 
   succeeded_takes : (d : Draft) (records : List OutputLine) → Each IsHook records →
       Extends e.reads_emitted header.seq (Grounds before records (DeletesBy t)) (draft_on base) d →
-      (Completes e before m (readings.Transaction t) → Follows e.checks m d.entries) →
-      Takes e header.seq before m (readings.Transaction t) (succeeded t d records)
-  succeeded_takes d records hooks extends follows = record {
+      (Completes e before m (readings.Transaction t) → Follows e.checks m d.entries) → (IsMeasured e → IsLimited e next m d) →
+      Takes e header.seq next before m (readings.Transaction t) (succeeded t d records)
+  succeeded_takes d records hooks extends follows limits = record {
     base = base;
     same = pays.same;
     sum = pays.sum;
@@ -167,10 +177,21 @@ module _ (e : Engine) (lawful : IsLawful e) (before m : Entries) (header : Heade
     hooks = hooks;
     success = inl refl;
     follows = follows;
+    limits = limits;
   }
 
   module _ (d : Draft) (records : List OutputLine) (one : Chained e.reads_emitted header.seq before (draft_on base) d records)
-      (sizes : IsCareful e → AreSized base → AreSized d.entries) where
+      (sizes : IsCareful e → AreSized base → AreSized d.entries)
+      (fits : IsMeasured e → Fit e next (draft_on base) (kept d records)) where
+    left_within : IsMeasured e → (most : ℕ) → balances m ≤ most → AreWithin e.reserve most m → AreWithin e.reserve most d.entries
+    left_within measured most sum within = (fits measured).0 most (paid_sum most sum) (paid_within measured most within)
+
+    left_room : IsMeasured e → next ≤ most_number → next + length d.emissions ≤ most_number
+    left_room measured room = (fits measured).1 (omega (arith, room))
+
+    left_sum : (most : ℕ) → balances m ≤ most → balances d.entries ≤ most
+    left_sum most sum = let paid_so = paid_sum most sum in let same = one.extends.sum in omega (arith, paid_so, same)
+
     chain_follows : Completes e before m (readings.Transaction t) → Follows e.checks m d.entries
     chain_follows c =
         follows_further e.checks m base d.entries pays.follows
@@ -186,13 +207,18 @@ module _ (e : Engine) (lawful : IsLawful e) (before m : Entries) (header : Heade
 
     items_take : t.kind ≡ hook_kind → (x : ItemEnd) → GoesOn e.reads_emitted header.seq (IsDeleted t.account t.hooks) d x →
         (Completes e before m (readings.Transaction t) → FollowsEnd e t.account d x) →
-        Takes e header.seq before m (readings.Transaction t) (after_items base t records x)
-    items_take kind (leaves b) goes follows =
+        (IsMeasured e → (most : ℕ) → balances d.entries ≤ most → ReservesEnd e.reserve most d x) → (IsMeasured e → EmitsEnd d x) →
+        Takes e header.seq next before m (readings.Transaction t) (after_items base t records x)
+    items_take kind (leaves b) goes follows within same =
         succeeded_takes b records one.hooks
         (extends_further e.reads_emitted header.seq (Grounds before records (DeletesBy t)) (draft_on base) d b chained
         (extends_weaker e.reads_emitted header.seq (IsDeleted t.account t.hooks) (Grounds before records (DeletesBy t)) (λ q h. inr (kind, h)) d b goes))
         (λ c. follows_further e.checks m d.entries b.entries (chain_follows c) (follows c))
-    items_take kind (stops name) goes follows = failed_takes name records one.hooks
+        (λ measured. record {
+          within = λ most sum reserves. within measured most (left_sum most sum) (left_within measured most sum reserves);
+          room = λ room. subst (λ es. next + length es ≤ most_number) (sym (same measured)) (left_room measured room);
+        })
+    items_take kind (stops name) goes follows within same = failed_takes name records one.hooks
 
     ruled : (n : Entries) → e.rules header d.entries t ≡ keeps n →
         Extends e.reads_emitted header.seq (Grounds before records (DeletesBy t)) d (record { entries = n; written = d.written; emissions = d.emissions })
@@ -209,42 +235,49 @@ module _ (e : Engine) (lawful : IsLawful e) (before m : Entries) (header : Heade
     }
 
     rules_take : (x : Effect) → e.rules header d.entries t ≡ x →
-        Takes e header.seq before m (readings.Transaction t) (after_rules base t records d x)
+        Takes e header.seq next before m (readings.Transaction t) (after_rules base t records d x)
     rules_take (keeps n) is =
         succeeded_takes (record { entries = n; written = d.written; emissions = d.emissions }) records one.hooks
         (extends_further e.reads_emitted header.seq (Grounds before records (DeletesBy t)) (draft_on base) d (record { entries = n; written = d.written; emissions = d.emissions }) chained (ruled n is))
         (λ c. follows_further e.checks m d.entries n (chain_follows c)
         (follows_same e.checks d.entries n (λ k h. lawful.others header d.entries n t k is (kept_by_rules k h)) (λ id h. lawful.accounts header d.entries n t id is h)))
+        (λ measured. record {
+          within = λ most sum reserves. same_within e.reserve measured.reserves most d.entries n (λ id k h. lawful.others header d.entries n t k is (own_ruled id k h)) (left_within measured most sum reserves);
+          room = left_room measured;
+        })
     rules_take (fails name) is = failed_takes name records one.hooks
 
     effect_takes : (b : Bool) → (t.kind == hook_kind) ≡ b →
-        Takes e header.seq before m (readings.Transaction t) (if b then after_items base t records (hooks_end e t.account t.hooks d) else after_rules base t records d (e.rules header d.entries t))
+        Takes e header.seq next before m (readings.Transaction t) (if b then after_items base t records (hooks_end e t.account t.hooks d) else after_rules base t records d (e.rules header d.entries t))
     effect_takes true is = items_take (eqb-true t.kind hook_kind is) (hooks_end e t.account t.hooks d) (hooks_go e.reads_emitted header.seq e t.account t.hooks d)
         (λ c. hooks_follow e t.account t.hooks d c.fit.0 c.fit.1 ((chain_follows c).accounts t.account pays.there) (left_complete c))
+        (λ measured most sum. hooks_within t.account e measured.reserves most e.reads_emitted header.seq t.hooks d sum)
+        (λ measured. hooks_emit t.account e t.hooks d)
     effect_takes false is = rules_take (e.rules header d.entries t) refl
 
-  chains_take : (x : ChainEnd) → ChainFits e.reads_emitted header.seq before (draft_on base) x → (IsCareful e → SizesFit (draft_on base) x) →
-      Takes e header.seq before m (readings.Transaction t) (after_chains e header base t x)
-  chains_take (kept d records) one sizes = effect_takes d records one sizes (t.kind == hook_kind) refl
-  chains_take (rejected records) hooks sizes = failed_takes HookRejected records hooks
+  chains_take : (x : ChainEnd) → ChainFits e.reads_emitted header.seq before (draft_on base) x → (IsCareful e → SizesFit (draft_on base) x) → (IsMeasured e → Fit e next (draft_on base) x) →
+      Takes e header.seq next before m (readings.Transaction t) (after_chains e header base t x)
+  chains_take (kept d records) one sizes fits = effect_takes d records one sizes fits (t.kind == hook_kind) refl
+  chains_take (rejected records) hooks sizes fits = failed_takes HookRejected records hooks
 
 module _ (e : Engine) (lawful : IsLawful e) (before : Entries) (ledger : LedgerValue) where
   performed_takes : (origin : Origin) (t : Transaction) (name : Option ResultName) → refusal e before ledger origin t ≡ name →
-      Takes e ledger.header.seq before ledger.entries (readings.Transaction t) (unless_refused e before ledger origin t name)
-  performed_takes origin t (Some name) is = refused_takes e ledger.header.seq before ledger.entries (readings.Transaction t) name
+      Takes e ledger.header.seq ledger.next before ledger.entries (readings.Transaction t) (unless_refused e before ledger origin t name)
+  performed_takes origin t (Some name) is = refused_takes e ledger.header.seq ledger.next before ledger.entries (readings.Transaction t) name
   performed_takes origin t None is =
       let takes = taken e before ledger origin t is in
       let fees = lawful.fees before t in
       let enough = takes.enough in
-      chains_take e lawful before ledger.entries ledger.header (paid ledger.entries origin t) t
+      chains_take e lawful before ledger.entries ledger.header ledger.next (paid ledger.entries origin t) t
       (pays_from e.checks ledger.entries (e.needed_fee before t) origin t takes) (omega (arith, fees, enough))
       (chains (e.chain ledger.header ledger.next before t) (sides t) (draft_on (paid ledger.entries origin t)))
       (chains_fit e.reads_emitted ledger.header.seq before (e.chain ledger.header ledger.next before t) (lawful.chains ledger.header ledger.next before t) (sides t) (draft_on (paid ledger.entries origin t)))
       (λ careful. chains_sized (e.chain ledger.header ledger.next before t) (careful.chains ledger.header ledger.next before t) (sides t) (draft_on (paid ledger.entries origin t)))
+      (λ measured. chains_measured e ledger.next e.reads_emitted ledger.header.seq before (e.chain ledger.header ledger.next before t) (lawful.chains ledger.header ledger.next before t) (measured.chains ledger.header ledger.next before t) (sides t) (draft_on (paid ledger.entries origin t)))
 
   pub transaction_takes : (origin : Origin) (reading : Reading) →
-      Takes e ledger.header.seq before ledger.entries reading (transaction e before ledger origin reading)
-  transaction_takes origin readings.TooLong = refused_takes e ledger.header.seq before ledger.entries readings.TooLong TooLong
-  transaction_takes origin readings.Unparsed = refused_takes e ledger.header.seq before ledger.entries readings.Unparsed Unparsed
-  transaction_takes origin readings.Malformed = refused_takes e ledger.header.seq before ledger.entries readings.Malformed Malformed
+      Takes e ledger.header.seq ledger.next before ledger.entries reading (transaction e before ledger origin reading)
+  transaction_takes origin readings.TooLong = refused_takes e ledger.header.seq ledger.next before ledger.entries readings.TooLong TooLong
+  transaction_takes origin readings.Unparsed = refused_takes e ledger.header.seq ledger.next before ledger.entries readings.Unparsed Unparsed
+  transaction_takes origin readings.Malformed = refused_takes e ledger.header.seq ledger.next before ledger.entries readings.Malformed Malformed
   transaction_takes origin (readings.Transaction t) = performed_takes origin t (refusal e before ledger origin t) refl

@@ -8,6 +8,7 @@ use Rattle.hk_state.specs.declared.key.Key.TheVariants as key
 use Rattle.hk_state.specs.declared.key.StateKey.{StateKey}
 use Rattle.hk_state.specs.Balances.{balances}
 use Rattle.hk_state.specs.Ledger.{LedgerValue}
+use Rattle.hk_state.specs.Reserves.{reserve}
 use Rattle.hk_events.specs.Engine.{Engine}
 use Rattle.hk_events.specs.Events.{Event, applied}
 use Rattle.hk_events.specs.Settled.{Opened, settled, settled_all, settle_next, and_then, due, sender_at}
@@ -15,6 +16,7 @@ use Rattle.hk_events.specs.Confined.{IsConfined, Deletes}
 use Rattle.hk_events.specs.Whole.{IsWholeOrNothing, sender_of}
 use Rattle.hk_events.specs.Good.{IsGood}
 use Rattle.hk_events.specs.Complete.{IsComplete, IsCareful}
+use Rattle.hk_events.specs.Limits.{IsWithin, IsMeasured, RestsOnOwn}
 use Rattle.hk_events.specs.Lawful.{IsLawful}
 
 -- an event is confined, and whole or nothing; the queue stays good; and no drop comes or goes
@@ -68,3 +70,16 @@ pub record StaysSo (e : Engine) (ledger : LedgerValue) : Type 0 where
 abbrev pub StaysComplete : Type 0
 StaysComplete = (e : Engine) (ledger : LedgerValue) → IsLawful e → IsCareful e → IsGood e.reads_emitted ledger →
     IsComplete e.checks ledger.entries → StaysSo e ledger
+
+-- reserves and numbers stay within their limits
+pub record LimitsStay (e : Engine) (most : ℕ) (ledger : LedgerValue) : Type 0 where
+  pub applied_so : (verdict : Verdict) (blob : List ℕ) → IsWithin e most (applied e ledger verdict blob).ledger
+  pub settled_so : (number : ℕ) → IsWithin e most (settled e ledger number).ledger
+
+abbrev pub StaysWithin : Type 0
+StaysWithin = (e : Engine) (most : ℕ) (ledger : LedgerValue) → IsLawful e → IsMeasured e → IsGood e.reads_emitted ledger →
+    IsWithin e most ledger → LimitsStay e most ledger
+
+-- the reserve of an account rests on its Installs and State entries
+abbrev pub ReserveRests : Type 0
+ReserveRests = RestsOnOwn reserve

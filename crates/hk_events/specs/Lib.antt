@@ -11,5 +11,6 @@ pub mod Whole
 pub mod Settled
 pub mod Good
 pub mod Complete
+pub mod Limits
 pub mod Lawful
 pub mod Laws

@@ -1,4 +1,4 @@
-ghost use Rattle.hk_events.specs.Laws.{AppliedHolds, SettledHolds, DueFalls, SettlesWhileDue, StaysComplete};
+ghost use Rattle.hk_events.specs.Laws.{AppliedHolds, SettledHolds, DueFalls, SettlesWhileDue, StaysComplete, StaysWithin, ReserveRests};
 
 /// A transaction changes State entries only as it may, changes all that it prints and nothing else, and keeps the queue
 /// good and the sum of all drops.
@@ -24,4 +24,14 @@ pub fn settles_while_due()
 /// Each event keeps what a ledger has of hooks complete: accepted Definitions, Installs of them, State entries of accounts.
 pub fn stays_complete()
     ensures law { StaysComplete }
+{}
+
+/// Each event keeps reserves within the sum of drops, and the next number within its limit.
+pub fn stays_within()
+    ensures law { StaysWithin }
+{}
+
+/// The reserve of an account rests on its Installs and State entries alone.
+pub fn reserve_rests()
+    ensures law { ReserveRests }
 {}

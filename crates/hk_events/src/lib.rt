@@ -3,4 +3,7 @@
 
 mod laws;
 
-pub use laws::{applied_events, due_falls, settled_events, settles_while_due, stays_complete};
+pub use laws::{
+    applied_events, due_falls, reserve_rests, settled_events, settles_while_due, stays_complete,
+    stays_within,
+};
