@@ -1,0 +1,15 @@
+pub mod Words
+pub mod Telling
+pub mod Queueing
+pub mod Due
+pub mod Falling
+pub mod Chaining
+pub mod Changing
+pub mod Following
+pub mod Keeping
+pub mod Limiting
+pub mod Taking
+pub mod Holding
+pub mod Applying
+pub mod Settling
+pub mod Staying

@@ -1,0 +1,16 @@
+pub mod Lists
+pub mod Engine
+pub mod Results
+pub mod Chains
+pub mod Items
+pub mod Performed
+pub mod Printed
+pub mod Events
+pub mod Confined
+pub mod Whole
+pub mod Settled
+pub mod Good
+pub mod Complete
+pub mod Limits
+pub mod Lawful
+pub mod Laws

@@ -1,0 +1,9 @@
+//! The events of a ledger with hooks. Definitions and their laws; no code of its own.
+#![tactic(auto)]
+
+mod laws;
+
+pub use laws::{
+    applied_events, due_falls, reserve_rests, settled_events, settles_while_due, stays_complete,
+    stays_within,
+};
