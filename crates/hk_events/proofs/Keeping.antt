@@ -73,13 +73,13 @@ module _ (e : Engine) (owner : AccountId) where
         let defined_so = defined_follows version code c small at d in
         follows_further e.checks d.entries (defined version code c d).entries (insert (defined version code c d).entries (key.Install owner position) (entry.Install c.hash on namespace parameters grants)) defined_so
         (follows_install e.checks (defined version code c d).entries owner position (entry.Install c.hash on namespace parameters grants)
-        (low, (defined_known version code c small at d, (defined_so.accounts owner here, terms))))
+        (record { low = low; known = defined_known version code c small at d; owned = defined_so.accounts owner here; values = terms.0; leave = terms.1 }))
 
     installed_follows : (hash on namespace : Hash256) (parameters : List Parameter) (grants : List Grant) → AreParameters parameters × AreGrants grants → (b : Bool) →
         has_entry d (key.Definition hash) ≡ b →
         FollowsEnd d (if b then leaves (put_entry (key.Install owner position) (entry.Install hash on namespace parameters grants) d) else stops NoDefinition)
     installed_follows hash on namespace parameters grants terms true there =
-        follows_install e.checks d.entries owner position (entry.Install hash on namespace parameters grants) (low, (there, (here, terms)))
+        follows_install e.checks d.entries owner position (entry.Install hash on namespace parameters grants) (record { low = low; known = there; owned = here; values = terms.0; leave = terms.1 })
     installed_follows hash on namespace parameters grants terms false none = tt
 
     updated_follows : (on namespace : Option Hash256) (parameters : Option (List Parameter)) (grants : Option (List Grant)) → IfGiven AreParameters parameters × IfGiven AreGrants grants →
@@ -88,7 +88,7 @@ module _ (e : Engine) (owner : AccountId) where
     updated_follows on namespace parameters grants terms complete (Some (entry.Install hash was_on was_namespace was_parameters was_grants)) at =
         let was = complete.installs owner position (entry.Install hash was_on was_namespace was_parameters was_grants) at in
         follows_install e.checks d.entries owner position (entry.Install hash (unwrap_or on was_on) (unwrap_or namespace was_namespace) (unwrap_or parameters was_parameters) (unwrap_or grants was_grants))
-        (low, (was.1.0, (here, (given_so AreParameters parameters was_parameters terms.0 was.1.1.1.0, given_so AreGrants grants was_grants terms.1 was.1.1.1.1))))
+        (record { low = low; known = was.known; owned = here; values = given_so AreParameters parameters was_parameters terms.0 was.values; leave = given_so AreGrants grants was_grants terms.1 was.leave })
     updated_follows on namespace parameters grants terms complete other at = tt
 
     item_follows : (i : HookItem) → IsItem i → IsComplete e.checks d.entries → FollowsEnd d (item_end e owner position i d)

@@ -13,3 +13,5 @@ pub mod Holding
 pub mod Applying
 pub mod Settling
 pub mod Staying
+pub mod Emptying
+pub mod Writing

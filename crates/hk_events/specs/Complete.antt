@@ -27,7 +27,8 @@ use Rattle.hk_events.specs.Engine.{Engine, Checked}
 -- accepted in its version, with the hash under which it stands and the bounds that it has
 abbrev pub IsDefinition : (ℕ → List ℕ → Option Checked) → Hash256 → Entry → Type 0
 IsDefinition checks hash (entry.Definition code version bound_hook bound_cbak) =
-    (version ≤ 1) × (checks version code ≡ Some (record { hash = hash; bound_hook = bound_hook; bound_cbak = bound_cbak }))
+    (version ≤ 1)
+    × (checks version code ≡ Some (record { hash = hash; bound_hook = bound_hook; bound_cbak = bound_cbak }))
 IsDefinition checks hash other = ⊥
 
 -- a name of 1 to 32 bytes, and a value of at most 256
@@ -50,10 +51,18 @@ pub record AreParameters (parameters : List Parameter) : Type 0 where
 abbrev pub AreGrants : List Grant → Type 0
 AreGrants grants = length grants ≤ 16
 
--- an Install at one of ten positions of an account, of a Definition that is there
+-- at one of ten positions of an account, with a Definition that is there
+pub record Installs (m : Entries) (owner : AccountId) (position : ℕ) (hash : Hash256) (parameters : List Parameter)
+    (grants : List Grant) : Type 0 where
+  pub low : position < positions
+  pub known : IsSome (get m (key.Definition hash))
+  pub owned : IsSome (holding_at m owner)
+  pub values : AreParameters parameters
+  pub leave : AreGrants grants
+
 abbrev pub IsInstall : Entries → AccountId → ℕ → Entry → Type 0
 IsInstall m owner position (entry.Install hash on namespace parameters grants) =
-    (position < positions) × (IsSome (get m (key.Definition hash)) × (IsSome (holding_at m owner) × (AreParameters parameters × AreGrants grants)))
+    Installs m owner position hash parameters grants
 IsInstall m owner position other = ⊥
 
 -- the most bytes of a State entry
@@ -71,7 +80,8 @@ IsState m owner x = IsSized x × IsSome (holding_at m owner)
 
 pub record IsComplete (checks : ℕ → List ℕ → Option Checked) (m : Entries) : Type 0 where
   pub definitions : (hash : Hash256) (x : Entry) → get m (key.Definition hash) ≡ Some x → IsDefinition checks hash x
-  pub installs : (owner : AccountId) (position : ℕ) (x : Entry) → get m (key.Install owner position) ≡ Some x → IsInstall m owner position x
+  pub installs : (owner : AccountId) (position : ℕ) (x : Entry) → get m (key.Install owner position) ≡ Some x →
+      IsInstall m owner position x
   pub states : (q : StateKey) (x : Entry) → get m (as_key q) ≡ Some x → IsState m q.owner x
 
 -- an item of a change of hooks says no more than an Install may have
@@ -80,7 +90,8 @@ IfGiven P None = Unit {0}
 IfGiven P (Some x) = P x
 
 abbrev pub IsItem : HookItem → Type 0
-IsItem (item.Create code version on namespace parameters grants replace) = (version ≤ 1) × (AreParameters parameters × AreGrants grants)
+IsItem (item.Create code version on namespace parameters grants replace) =
+    (version ≤ 1) × (AreParameters parameters × AreGrants grants)
 IsItem (item.Install hash on namespace parameters grants replace) = AreParameters parameters × AreGrants grants
 IsItem (item.Update on namespace parameters grants) = IfGiven AreParameters parameters × IfGiven AreGrants grants
 IsItem other = Unit {0}
@@ -104,5 +115,6 @@ pub record IsCareful (e : Engine) : Type 0 where
   pub reads_emitted : (blob : List ℕ) → ItemsFit (e.reads_emitted blob)
   pub chains : (header : Header) (next : ℕ) (before : Entries) (t : Transaction) (account : AccountId) (a : Draft) →
       SizesFit a (e.chain header next before t account a)
-  pub callbacks : (header : Header) (next : ℕ) (before : Entries) (t : Transaction) (account : AccountId) (hash : Hash256) (word : ℕ) (a : Draft) →
+  pub callbacks : (header : Header) (next : ℕ) (before : Entries) (t : Transaction) (account : AccountId)
+      (hash : Hash256) (word : ℕ) (a : Draft) →
       SizesFit a (e.callback header next before t account hash word a)
