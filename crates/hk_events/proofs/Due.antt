@@ -192,7 +192,7 @@ pub record Begins (ns : List ℕ) (number : ℕ) : Type 0 where
   pub is : ns ≡ number ∷ later
 
 begins_by : (n : ℕ) (ns : List ℕ) (number : ℕ) → Each (λ m. n < m) ns → (number ≡ n) ⊎ (n < number) → (n < number → ⊥) → Begins (n ∷ ns) number
-begins_by n ns number up (inl same) least = record { later = ns; is = ap (λ k. k ∷ ns) (sym same) }
+begins_by n ns number rises (inl same) least = record { later = ns; is = ap (λ k. k ∷ ns) (sym same) }
 begins_by n ns number up (inr above) least = absurd (least above)
 
 either : (n number : ℕ) (ns : List ℕ) → Each (λ m. n < m) ns → has number (n ∷ ns) ≡ true → (number ≡ n) ⊎ (n < number)

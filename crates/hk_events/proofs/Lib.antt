@@ -15,3 +15,4 @@ pub mod Settling
 pub mod Staying
 pub mod Emptying
 pub mod Writing
+pub mod Fitting

@@ -1,6 +1,7 @@
 ghost use Rattle.hk_events.specs.Laws.{AppliedHolds, SettledHolds, DueFalls, SettlesWhileDue};
 ghost use Rattle.hk_events.specs.Laws.{StaysComplete, StaysWithin, ReserveRests, NamespacesEmptied};
 ghost use Rattle.hk_events.specs.Laws.{FindsDue, FindsNone, OverlaysSo};
+ghost use Rattle.hk_events.specs.Complete.{TransactionsFit};
 ghost use Rattle.hk_events.specs.Overlays.{CommitsSo};
 
 /// A transaction changes State entries only as it may, changes all that it prints and nothing else, and keeps the queue
@@ -55,4 +56,9 @@ pub fn finds_due()
 pub fn committing()
     ensures overlays { OverlaysSo }
     ensures commits { CommitsSo }
+{}
+
+/// A transaction that fields are has items within the limits of Installs.
+pub fn transactions_fit()
+    ensures law { TransactionsFit }
 {}
