@@ -1,16 +1,12 @@
 -- A deleted namespace has no entries.
-use Rattle.std.proofs.Common.{◌⊎◌, inl, inr, ◌≡◌, ℕ, Bool, true, false, cond, ◌||◌, if◌then◌else◌, List, [], ◌∷◌, refl, sym, ap, ◌∙◌, Option, Some, None}
+use Rattle.std.proofs.Common.{inl, inr, ◌≡◌, Bool, true, false, cond, ◌||◌, if◌then◌else◌, List, [], ◌∷◌, refl, sym, ap, ◌∙◌, Option, Some, None}
 use Rattle.std.specs.List.{filter_map, cons_option}
-use Rattle.std.specs.FinMap.{get, remove, find, entries, get-remove, get-entries}
+use Rattle.std.specs.FinMap.{get, find, entries, get-remove, get-entries}
 use Rattle.std.proofs.lemmas.Bool.{or_cases, or_right}
-use Rattle.hk_base.specs.declared.ids.AccountId.{AccountId}
-use Rattle.hk_base.specs.declared.ids.Hash256.{Hash256}
 use Rattle.hk_state.specs.declared.entry.Entry.{Entry}
 use Rattle.hk_state.specs.declared.key.Key.{Key}
-use Rattle.hk_state.specs.declared.key.Key.TheVariants as key
 use Rattle.hk_state.specs.declared.key.StateKey.{StateKey}
 use Rattle.hk_state.specs.Keys.{key_cmp, is_key, as_key, keys_total, exact, itself}
-use Rattle.hk_state.specs.Rules.{as_state_key}
 use Rattle.hk_draft.specs.Draft.{Draft, is_listed, erased}
 use Rattle.hk_events.specs.Items.{is_in, key_in, keys_in, all_erased}
 use Rattle.hk_events.specs.Laws.{NamespacesEmptied}

@@ -1,13 +1,10 @@
 -- What the fields of a transaction are says no more than an Install may have.
-use Rattle.std.proofs.Common.{◌≡◌, ℕ, ◌≤◌, Bool, true, false, ◌==◌, List, [], ◌∷◌, length, refl, sym, ap, subst, ◌∙◌, arith, Option, Some, None}
+use Rattle.std.proofs.Common.{◌≡◌, ℕ, ◌≤◌, Bool, true, false, ◌==◌, List, [], ◌∷◌, length, refl, sym, subst, arith, Option, Some, None}
 use Rattle.xo_list.specs.Item.{Item, lookup}
-use Rattle.xo_fields.specs.declared.field.FieldId.{FieldId}
 use Rattle.xo_object.specs.declared.terms.Terms.{Terms}
 use Rattle.xo_object.specs.declared.transaction.Grant.{Grant}
 use Rattle.xo_object.specs.declared.transaction.HookItem.{HookItem}
-use Rattle.xo_object.specs.declared.transaction.HookItem.TheVariants as item
 use Rattle.xo_object.specs.declared.transaction.Parameter.{Parameter}
-use Rattle.xo_object.specs.declared.transaction.Transaction.{Transaction}
 use Rattle.xo_object.specs.Names as names
 use Rattle.xo_object.specs.Transaction as object
 use Rattle.xo_object.specs.Transaction.{AreElements, IsElement, ParameterIs, GrantIs, Given, or_empty, Which, noop, delete, create, install, delete_namespace, update, TermsAre, Form, HookIs, AreHooks, GivenHooks, HooksFor, which}

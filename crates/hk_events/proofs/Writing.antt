@@ -1,12 +1,10 @@
 -- An overlay's writes as an event's draft, and commits.
-use Rattle.std.proofs.Common.{◌≡◌, ℕ, ◌+◌, Bool, true, false, if◌then◌else◌, List, [], ◌∷◌, ◌++◌, append-nil, length, refl, sym, ap, ◌∙◌, Option, Some, None}
+use Rattle.std.proofs.Common.{◌≡◌, ℕ, ◌+◌, true, false, if◌then◌else◌, List, [], ◌∷◌, ◌++◌, append-nil, length, refl, ap, ◌∙◌, Some}
 use Rattle.std.proofs.lemmas.List.Elements.{filter_map-append}
 use Rattle.hk_emit.specs.declared.emission.Emission.{Emission}
-use Rattle.hk_state.specs.declared.entry.Entry.{Entry}
 use Rattle.hk_state.specs.declared.key.Key.{Key}
 use Rattle.hk_state.specs.declared.key.Key.TheVariants as key
 use Rattle.hk_state.specs.Entries.{Entries}
-use Rattle.hk_state.specs.Ledger.{LedgerValue}
 use Rattle.hk_state.specs.Rules.{as_state_key, state_keys}
 use Rattle.hk_state.specs.Writes.{Writes, written, note, is_listed, with_writes, with_written, with_new}
 use Rattle.hk_draft.specs.Extends.{is_state}
