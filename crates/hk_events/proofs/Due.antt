@@ -1,5 +1,5 @@
 -- The numbers of emissions that pass a test, the least first.
-use Rattle.std.proofs.Common.{◌≡◌, ℕ, ◌<◌, ◌==◌, ◌⊎◌, inl, inr, T, Bool, true, false, cond, ◌||◌, if◌then◌else◌, nat_lt, List, [], ◌∷◌, ◌++◌, refl, sym, ap, subst, ◌∙◌, arith, Option, Some, None}
+use Rattle.std.proofs.Common.{◌≡◌, ℕ, ◌<◌, ◌==◌, ◌⊎◌, inl, inr, T, Bool, true, false, cond, ◌||◌, if◌then◌else◌, nat_lt, List, [], ◌∷◌, ◌++◌, refl, sym, ap, subst, ◌∙◌, arith, Some}
 use Rattle.std.specs.List.{list_any}
 use Rattle.std.specs.declared.cmp.Ordering.TheVariants.{Less, Equal, Greater}
 use Rattle.std.specs.Ordering.{nat_cmp, is_lt}
@@ -193,7 +193,7 @@ pub record Begins (ns : List ℕ) (number : ℕ) : Type 0 where
 
 begins_by : (n : ℕ) (ns : List ℕ) (number : ℕ) → Each (λ m. n < m) ns → (number ≡ n) ⊎ (n < number) → (n < number → ⊥) → Begins (n ∷ ns) number
 begins_by n ns number rises (inl same) least = record { later = ns; is = ap (λ k. k ∷ ns) (sym same) }
-begins_by n ns number up (inr above) least = absurd (least above)
+begins_by n ns number rises (inr above) least = absurd (least above)
 
 either : (n number : ℕ) (ns : List ℕ) → Each (λ m. n < m) ns → has number (n ∷ ns) ≡ true → (number ≡ n) ⊎ (n < number)
 either n number ns up h = elim (or_cases (number == n) (has number ns) h) as (λ _. (number ≡ n) ⊎ (n < number)) [
