@@ -1,5 +1,5 @@
 -- The numbers of emissions that pass a test, the least first.
-use Rattle.std.proofs.Common.{◌≡◌, ℕ, ◌<◌, ◌==◌, inl, inr, T, Bool, true, false, cond, ◌||◌, if◌then◌else◌, nat_lt, List, [], ◌∷◌, ◌++◌, refl, sym, ap, subst, ◌∙◌, arith, Option, Some, None}
+use Rattle.std.proofs.Common.{◌≡◌, ℕ, ◌<◌, ◌==◌, ◌⊎◌, inl, inr, T, Bool, true, false, cond, ◌||◌, if◌then◌else◌, nat_lt, List, [], ◌∷◌, ◌++◌, refl, sym, ap, subst, ◌∙◌, arith, Some}
 use Rattle.std.specs.List.{list_any}
 use Rattle.std.specs.declared.cmp.Ordering.TheVariants.{Less, Equal, Greater}
 use Rattle.std.specs.Ordering.{nat_cmp, is_lt}
@@ -14,12 +14,7 @@ use Rattle.hk_state.specs.Entries.{Entries}
 use Rattle.hk_state.proofs.Leasts.{below, first, second}
 use Rattle.hk_draft.specs.Lists.{Each}
 use Rattle.hk_draft.proofs.Extended.{each-append}
-use Rattle.hk_events.specs.Settled.{number_of, numbers}
-
--- whether an entry is there and passes
-abbrev pub passes : (Entry → Bool) → Option Entry → Bool
-passes test None = false
-passes test (Some x) = test x
+use Rattle.hk_events.specs.Settled.{number_of, numbers, passes}
 
 abbrev pub has : ℕ → List ℕ → Bool
 has n ns = list_any (λ m. n == m) ns
@@ -186,3 +181,34 @@ module _ (test : Entry → Bool) where
 
     pub falls : numbers test (entries n) ≡ later
     falls = one_list (numbers test (entries n)) later (ascending n) up.1 (λ k. has_number k n ∙ falls_at k (k == number) refl)
+
+-- the least of a list that ascends
+has_not : (ns : List ℕ) → ((n : ℕ) → has n ns ≡ true → ⊥) → ns ≡ []
+has_not [] none = refl
+has_not (n ∷ ns) none = absurd (none n (has_head n ns))
+
+pub record Begins (ns : List ℕ) (number : ℕ) : Type 0 where
+  pub later : List ℕ
+  pub is : ns ≡ number ∷ later
+
+begins_by : (n : ℕ) (ns : List ℕ) (number : ℕ) → Each (λ m. n < m) ns → (number ≡ n) ⊎ (n < number) → (n < number → ⊥) → Begins (n ∷ ns) number
+begins_by n ns number rises (inl same) least = record { later = ns; is = ap (λ k. k ∷ ns) (sym same) }
+begins_by n ns number rises (inr above) least = absurd (least above)
+
+either : (n number : ℕ) (ns : List ℕ) → Each (λ m. n < m) ns → has number (n ∷ ns) ≡ true → (number ≡ n) ⊎ (n < number)
+either n number ns up h = elim (or_cases (number == n) (has number ns) h) as (λ _. (number ≡ n) ⊎ (n < number)) [
+  | inl here ↦ inl (eqb-true number n here)
+  | inr later ↦ inr (has_above number n ns up later)
+]
+
+begins : (ns : List ℕ) (number : ℕ) → Ascends ns → has number ns ≡ true → ((n : ℕ) → n < number → has n ns ≡ true → ⊥) → Begins ns number
+begins [] number up h least = cc
+begins (n ∷ ns) number rises h least = begins_by n ns number rises.0 (either n number ns rises.0 h) (λ above. least n above (has_head n ns))
+
+pub numbers_begin : (test : Entry → Bool) (m : Entries) (number : ℕ) → passes test (get m (key.Emitted number)) ≡ true →
+    ((n : ℕ) → n < number → passes test (get m (key.Emitted n)) ≡ true → ⊥) → Begins (numbers test (entries m)) number
+numbers_begin test m number there least =
+    begins (numbers test (entries m)) number (ascending test m) (has_number test number m ∙ there) (λ n low h. least n low (sym (has_number test n m) ∙ h))
+
+pub numbers_none : (test : Entry → Bool) (m : Entries) → ((n : ℕ) → passes test (get m (key.Emitted n)) ≡ true → ⊥) → numbers test (entries m) ≡ []
+numbers_none test m none = has_not (numbers test (entries m)) (λ n h. none n (sym (has_number test n m) ∙ h))

@@ -11,9 +11,8 @@ use Rattle.hk_state.specs.Entries.{Entries}
 use Rattle.hk_draft.specs.Lists.{Each}
 use Rattle.hk_draft.specs.Extends.{Emits}
 use Rattle.hk_events.specs.Events.{queued, with_queued}
-use Rattle.hk_events.specs.Settled.{is_due}
+use Rattle.hk_events.specs.Settled.{is_due, passes}
 use Rattle.hk_events.specs.Good.{IsQueueGood}
-use Rattle.hk_events.proofs.Due.{passes}
 use Rattle.hk_events.proofs.Queueing.{number_or, good_put}
 
 module _ (reads : List ℕ → Reading) (seq : ℕ) where

@@ -51,7 +51,13 @@ module _ (checks : ℕ → List ℕ → Option Checked) where
   }
 
   install_on : (m n : Entries) → Follows checks m n → (owner : AccountId) (position : ℕ) (x : Entry) → IsInstall m owner position x → IsInstall n owner position x
-  install_on m n two owner position (entry.Install hash on namespace parameters grants) h = (h.0, (two.known hash h.1.0, (two.accounts owner h.1.1.0, h.1.1.1)))
+  install_on m n two owner position (entry.Install hash on namespace parameters grants) h = record {
+    low = h.low;
+    known = two.known hash h.known;
+    owned = two.accounts owner h.owned;
+    values = h.values;
+    leave = h.leave;
+  }
   install_on m n two owner position other h = absurd h
 
   module _ (l m n : Entries) (one : Follows checks l m) (two : Follows checks m n) where
@@ -156,7 +162,7 @@ module _ (checks : ℕ → List ℕ → Option Checked) where
     accounts_so id h = subst (λ found. IsSome (as_holding found)) (sym (others (key.Account id) refl)) h
 
     install_there : (owner : AccountId) (position : ℕ) (x : Entry) → IsInstall before owner position x → IsSome (holding_at before owner)
-    install_there owner position (entry.Install hash on namespace parameters grants) h = h.1.1.0
+    install_there owner position (entry.Install hash on namespace parameters grants) h = h.owned
     install_there owner position other h = absurd h
 
     found_install : (owner : AccountId) (position : ℕ) (found : Option Entry) (hash : Hash256) → get before (key.Install owner position) ≡ found → hash_of found ≡ Some hash → IsSome (holding_at before owner)
@@ -228,10 +234,13 @@ module _ (checks : ℕ → List ℕ → Option Checked) where
     put_aside q other = get-insert keys_total m (key.Install owner position) x q ∙ ap (λ b. cond b (Some x) (get m q)) other
 
     install_put : (y : Entry) → IsInstall m owner position y → IsInstall put owner position y
-    install_put (entry.Install hash on namespace parameters grants) h = (
-      h.0,
-      (subst IsSome (sym (put_aside (key.Definition hash) refl)) h.1.0, (subst (λ found. IsSome (as_holding found)) (sym (put_aside (key.Account owner) refl)) h.1.1.0, h.1.1.1)),
-    )
+    install_put (entry.Install hash on namespace parameters grants) h = record {
+      low = h.low;
+      known = subst IsSome (sym (put_aside (key.Definition hash) refl)) h.known;
+      owned = subst (λ found. IsSome (as_holding found)) (sym (put_aside (key.Account owner) refl)) h.owned;
+      values = h.values;
+      leave = h.leave;
+    }
     install_put other h = absurd h
 
     abbrev IsInstallAt : Key → Entry → Type 0

@@ -20,7 +20,7 @@ use Rattle.hk_state.specs.Holdings.{holding_at}
 use Rattle.hk_draft.specs.Lists.{Each}
 use Rattle.hk_draft.specs.Draft.{Draft, erased}
 use Rattle.hk_events.specs.Engine.{Engine, Checked}
-use Rattle.hk_events.specs.Complete.{IsComplete, AreParameters, AreGrants, IfGiven, IsItem}
+use Rattle.hk_events.specs.Complete.{IsComplete, ParametersFit, GrantsFit, IfGiven, ItemFits}
 use Rattle.hk_events.specs.Items.{ItemEnd, leaves, stops, put_entry, keys_in, all_erased, has_entry, is_occupied, defined, created, updated, item_end, then_items, items_end, is_short, reserved, hooks_end}
 use Rattle.hk_events.proofs.Following.{Follows, follows_itself, follows_further, complete_then, follows_removal, follows_install, follows_definition}
 
@@ -66,32 +66,32 @@ module _ (e : Engine) (owner : AccountId) where
 
   module _ (position : ℕ) (low : position < positions) (d : Draft) (here : IsSome (holding_at d.entries owner)) where
     created_follows : (version : ℕ) (code : List ℕ) (on namespace : Hash256) (parameters : List Parameter) (grants : List Grant) → version ≤ 1 →
-        AreParameters parameters × AreGrants grants → (found : Option Checked) → e.checks version code ≡ found →
+        ParametersFit parameters × GrantsFit grants → (found : Option Checked) → e.checks version code ≡ found →
         FollowsEnd d (created owner position version code (λ hash. entry.Install hash on namespace parameters grants) d found)
     created_follows version code on namespace parameters grants small terms None at = tt
     created_follows version code on namespace parameters grants small terms (Some c) at =
         let defined_so = defined_follows version code c small at d in
         follows_further e.checks d.entries (defined version code c d).entries (insert (defined version code c d).entries (key.Install owner position) (entry.Install c.hash on namespace parameters grants)) defined_so
         (follows_install e.checks (defined version code c d).entries owner position (entry.Install c.hash on namespace parameters grants)
-        (low, (defined_known version code c small at d, (defined_so.accounts owner here, terms))))
+        (record { low = low; known = defined_known version code c small at d; owned = defined_so.accounts owner here; values = terms.0; leave = terms.1 }))
 
-    installed_follows : (hash on namespace : Hash256) (parameters : List Parameter) (grants : List Grant) → AreParameters parameters × AreGrants grants → (b : Bool) →
+    installed_follows : (hash on namespace : Hash256) (parameters : List Parameter) (grants : List Grant) → ParametersFit parameters × GrantsFit grants → (b : Bool) →
         has_entry d (key.Definition hash) ≡ b →
         FollowsEnd d (if b then leaves (put_entry (key.Install owner position) (entry.Install hash on namespace parameters grants) d) else stops NoDefinition)
     installed_follows hash on namespace parameters grants terms true there =
-        follows_install e.checks d.entries owner position (entry.Install hash on namespace parameters grants) (low, (there, (here, terms)))
+        follows_install e.checks d.entries owner position (entry.Install hash on namespace parameters grants) (record { low = low; known = there; owned = here; values = terms.0; leave = terms.1 })
     installed_follows hash on namespace parameters grants terms false none = tt
 
-    updated_follows : (on namespace : Option Hash256) (parameters : Option (List Parameter)) (grants : Option (List Grant)) → IfGiven AreParameters parameters × IfGiven AreGrants grants →
+    updated_follows : (on namespace : Option Hash256) (parameters : Option (List Parameter)) (grants : Option (List Grant)) → IfGiven ParametersFit parameters × IfGiven GrantsFit grants →
         IsComplete e.checks d.entries → (found : Option Entry) → get d.entries (key.Install owner position) ≡ found →
         FollowsEnd d (updated owner position on namespace parameters grants d found)
     updated_follows on namespace parameters grants terms complete (Some (entry.Install hash was_on was_namespace was_parameters was_grants)) at =
         let was = complete.installs owner position (entry.Install hash was_on was_namespace was_parameters was_grants) at in
         follows_install e.checks d.entries owner position (entry.Install hash (unwrap_or on was_on) (unwrap_or namespace was_namespace) (unwrap_or parameters was_parameters) (unwrap_or grants was_grants))
-        (low, (was.1.0, (here, (given_so AreParameters parameters was_parameters terms.0 was.1.1.1.0, given_so AreGrants grants was_grants terms.1 was.1.1.1.1))))
+        (record { low = low; known = was.known; owned = here; values = given_so ParametersFit parameters was_parameters terms.0 was.values; leave = given_so GrantsFit grants was_grants terms.1 was.leave })
     updated_follows on namespace parameters grants terms complete other at = tt
 
-    item_follows : (i : HookItem) → IsItem i → IsComplete e.checks d.entries → FollowsEnd d (item_end e owner position i d)
+    item_follows : (i : HookItem) → ItemFits i → IsComplete e.checks d.entries → FollowsEnd d (item_end e owner position i d)
     item_follows item.Noop is complete = follows_itself e.checks d.entries
     item_follows (item.DeleteNamespace namespace) is complete = erased_follow (keys_in owner namespace d.entries) d
     item_follows item.Delete is complete = follows_removal e.checks d.entries (key.Install owner position) tt
@@ -111,7 +111,7 @@ module _ (e : Engine) (owner : AccountId) where
   then_follows d (leaves b) later one two = onward d b (later b) one (two b one)
   then_follows d (stops name) later one two = tt
 
-  items_follow : (position : ℕ) (is : List HookItem) (d : Draft) → position + length is ≤ positions → Each IsItem is →
+  items_follow : (position : ℕ) (is : List HookItem) (d : Draft) → position + length is ≤ positions → Each ItemFits is →
       IsSome (holding_at d.entries owner) → IsComplete e.checks d.entries → FollowsEnd d (items_end e owner position is d)
   items_follow position [] d few fit here complete = follows_itself e.checks d.entries
   items_follow position (i ∷ is) d few fit here complete =
@@ -123,6 +123,6 @@ module _ (e : Engine) (owner : AccountId) where
   reserved_follows d (leaves b) one = unless_follows (is_short e owner b.entries) d Reserve (leaves b) one
   reserved_follows d (stops name) one = tt
 
-  pub hooks_follow : (is : List HookItem) (d : Draft) → length is ≤ positions → Each IsItem is → IsSome (holding_at d.entries owner) →
+  pub hooks_follow : (is : List HookItem) (d : Draft) → length is ≤ positions → Each ItemFits is → IsSome (holding_at d.entries owner) →
       IsComplete e.checks d.entries → FollowsEnd d (hooks_end e owner is d)
   hooks_follow is d few fit here complete = reserved_follows d (items_end e owner 0 is d) (items_follow 0 is d (omega (arith, few)) fit here complete)

@@ -13,3 +13,6 @@ pub mod Holding
 pub mod Applying
 pub mod Settling
 pub mod Staying
+pub mod Emptying
+pub mod Writing
+pub mod Fitting

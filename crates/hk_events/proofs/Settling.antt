@@ -30,17 +30,17 @@ use Rattle.hk_events.specs.Engine.{Engine}
 use Rattle.hk_events.specs.Results.{emitted}
 use Rattle.hk_events.specs.Performed.{transaction}
 use Rattle.hk_events.specs.Events.{Event}
-use Rattle.hk_events.specs.Settled.{Waiting, Settled, Answered, without, expired, performed_as, settlement, argument, answered, called_back, settled_by, settled_waiting, nothing_settled, settled_entry, settled, settled_all, first_settled, and_then, sender_at, numbers, is_due, due}
+use Rattle.hk_events.specs.Settled.{Waiting, Settled, Answered, without, expired, performed_as, settlement, argument, answered, called_back, settled_by, settled_waiting, nothing_settled, settled_entry, settled, settled_all, first_settled, and_then, sender_at, numbers, is_due, due, passes}
 use Rattle.hk_events.specs.Whole.{sender_of}
 use Rattle.hk_events.specs.Good.{IsGood, IsQueueGood}
 use Rattle.hk_events.specs.Lawful.{IsLawful}
-use Rattle.hk_events.specs.Laws.{Holds, SettledHolds, DueFalls, SettlesWhileDue, on_next, settled_while}
+use Rattle.hk_events.specs.Laws.{Holds, SettledHolds, DueFalls, SettlesWhileDue, FindsDue, FindsNone, on_next, settled_while}
 use Rattle.hk_events.proofs.Queueing.{without_other, other_number, no_number}
 use Rattle.hk_events.proofs.Taking.{TakesBy, Grounds, DeletedBy, transaction_takes}
 use Rattle.hk_events.proofs.Following.{follows_itself}
 use Rattle.hk_events.proofs.Holding.{Starts, Ran, Called, Happens, event_happens, plain_number}
 use Rattle.hk_events.proofs.Applying.{state_aside, queue_aside, dropped_call, deleted_so}
-use Rattle.hk_events.proofs.Due.{passes, has, has_head, has_number, falls}
+use Rattle.hk_events.proofs.Due.{has, has_head, has_number, falls, numbers_begin, numbers_none}
 
 each_call : (records : List OutputLine) → IsOneCallback records → Each IsCallback records
 each_call [] h = tt
@@ -279,3 +279,12 @@ while_law e ledger lawful good = record {
   all = λ most few. while_all e lawful most ledger good (due ledger) refl few;
   none = none_left e lawful ledger good (due ledger) refl;
 }
+
+-- the least due number by the entries alone
+pub finds_due : FindsDue
+finds_due ledger number there least =
+    let begins = numbers_begin (is_due ledger.header.seq) ledger.entries number there least in
+    record { later = begins.later; is = begins.is }
+
+pub finds_none : FindsNone
+finds_none ledger none = numbers_none (is_due ledger.header.seq) ledger.entries none

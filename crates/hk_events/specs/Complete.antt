@@ -1,5 +1,5 @@
 -- What a ledger keeps of its hooks and their state. This project's own.
-use Rattle.std.specs.Prelude.{◌≡◌, ◌≢◌, ℕ, ◌<◌, ◌≤◌, List, [], ◌∷◌, length, Option, Some, None, IsSome}
+use Rattle.std.specs.Prelude.{◌≡◌, ℕ, ◌<◌, ◌≤◌, Bool, List, [], length, Option, Some, None, IsSome}
 use Rattle.std.specs.FinMap.{get}
 use Rattle.hk_base.specs.declared.ids.AccountId.{AccountId}
 use Rattle.hk_base.specs.declared.ids.Hash256.{Hash256}
@@ -8,6 +8,8 @@ use Rattle.xo_object.specs.declared.transaction.HookItem.{HookItem}
 use Rattle.xo_object.specs.declared.transaction.HookItem.TheVariants as item
 use Rattle.xo_object.specs.declared.transaction.Parameter.{Parameter}
 use Rattle.xo_object.specs.declared.transaction.Transaction.{Transaction}
+use Rattle.xo_object.specs.Transaction.{AllDiffer, IsTransaction}
+use Rattle.xo_list.specs.Item.{Item}
 use Rattle.hk_reading.specs.declared.reading.Reading.{Reading}
 use Rattle.hk_reading.specs.declared.reading.Reading.TheVariants as readings
 use Rattle.hk_state.specs.declared.entry.Entry.{Entry}
@@ -27,33 +29,38 @@ use Rattle.hk_events.specs.Engine.{Engine, Checked}
 -- accepted in its version, with the hash under which it stands and the bounds that it has
 abbrev pub IsDefinition : (ℕ → List ℕ → Option Checked) → Hash256 → Entry → Type 0
 IsDefinition checks hash (entry.Definition code version bound_hook bound_cbak) =
-    (version ≤ 1) × (checks version code ≡ Some (record { hash = hash; bound_hook = bound_hook; bound_cbak = bound_cbak }))
+    (version ≤ 1)
+    × (checks version code ≡ Some (record { hash = hash; bound_hook = bound_hook; bound_cbak = bound_cbak }))
 IsDefinition checks hash other = ⊥
 
 -- a name of 1 to 32 bytes, and a value of at most 256
-pub record IsParameter (p : Parameter) : Type 0 where
+pub record ParameterFits (p : Parameter) : Type 0 where
   pub some : 1 ≤ length p.name
   pub name : length p.name ≤ 32
   pub value : length p.value ≤ 256
 
-abbrev pub Differ : List Parameter → Type 0
-Differ [] = Unit {0}
-Differ (p ∷ ps) = Each (λ other. other.name ≢ p.name) ps × Differ ps
-
 -- at most 16 parameters, of different names
-pub record AreParameters (parameters : List Parameter) : Type 0 where
+pub record ParametersFit (parameters : List Parameter) : Type 0 where
   pub few : length parameters ≤ 16
-  pub each : Each IsParameter parameters
-  pub differ : Differ parameters
+  pub each : Each ParameterFits parameters
+  pub differ : AllDiffer [] parameters
 
 -- at most 16 grants
-abbrev pub AreGrants : List Grant → Type 0
-AreGrants grants = length grants ≤ 16
+abbrev pub GrantsFit : List Grant → Type 0
+GrantsFit grants = length grants ≤ 16
 
--- an Install at one of ten positions of an account, of a Definition that is there
+-- at one of ten positions of an account, with a Definition that is there
+pub record Installs (m : Entries) (owner : AccountId) (position : ℕ) (hash : Hash256) (parameters : List Parameter)
+    (grants : List Grant) : Type 0 where
+  pub low : position < positions
+  pub known : IsSome (get m (key.Definition hash))
+  pub owned : IsSome (holding_at m owner)
+  pub values : ParametersFit parameters
+  pub leave : GrantsFit grants
+
 abbrev pub IsInstall : Entries → AccountId → ℕ → Entry → Type 0
 IsInstall m owner position (entry.Install hash on namespace parameters grants) =
-    (position < positions) × (IsSome (get m (key.Definition hash)) × (IsSome (holding_at m owner) × (AreParameters parameters × AreGrants grants)))
+    Installs m owner position hash parameters grants
 IsInstall m owner position other = ⊥
 
 -- the most bytes of a State entry
@@ -71,7 +78,8 @@ IsState m owner x = IsSized x × IsSome (holding_at m owner)
 
 pub record IsComplete (checks : ℕ → List ℕ → Option Checked) (m : Entries) : Type 0 where
   pub definitions : (hash : Hash256) (x : Entry) → get m (key.Definition hash) ≡ Some x → IsDefinition checks hash x
-  pub installs : (owner : AccountId) (position : ℕ) (x : Entry) → get m (key.Install owner position) ≡ Some x → IsInstall m owner position x
+  pub installs : (owner : AccountId) (position : ℕ) (x : Entry) → get m (key.Install owner position) ≡ Some x →
+      IsInstall m owner position x
   pub states : (q : StateKey) (x : Entry) → get m (as_key q) ≡ Some x → IsState m q.owner x
 
 -- an item of a change of hooks says no more than an Install may have
@@ -79,15 +87,16 @@ abbrev pub IfGiven : {X : Type 0} → (X → Type 0) → Option X → Type 0
 IfGiven P None = Unit {0}
 IfGiven P (Some x) = P x
 
-abbrev pub IsItem : HookItem → Type 0
-IsItem (item.Create code version on namespace parameters grants replace) = (version ≤ 1) × (AreParameters parameters × AreGrants grants)
-IsItem (item.Install hash on namespace parameters grants replace) = AreParameters parameters × AreGrants grants
-IsItem (item.Update on namespace parameters grants) = IfGiven AreParameters parameters × IfGiven AreGrants grants
-IsItem other = Unit {0}
+abbrev pub ItemFits : HookItem → Type 0
+ItemFits (item.Create code version on namespace parameters grants replace) =
+    (version ≤ 1) × (ParametersFit parameters × GrantsFit grants)
+ItemFits (item.Install hash on namespace parameters grants replace) = ParametersFit parameters × GrantsFit grants
+ItemFits (item.Update on namespace parameters grants) = IfGiven ParametersFit parameters × IfGiven GrantsFit grants
+ItemFits other = Unit {0}
 
 -- one for each position at most
 abbrev pub ItemsFit : Reading → Type 0
-ItemsFit (readings.Transaction t) = (length t.hooks ≤ positions) × Each IsItem t.hooks
+ItemsFit (readings.Transaction t) = (length t.hooks ≤ positions) × Each ItemFits t.hooks
 ItemsFit other = Unit {0}
 
 -- State entries that are sized stay so
@@ -104,5 +113,11 @@ pub record IsCareful (e : Engine) : Type 0 where
   pub reads_emitted : (blob : List ℕ) → ItemsFit (e.reads_emitted blob)
   pub chains : (header : Header) (next : ℕ) (before : Entries) (t : Transaction) (account : AccountId) (a : Draft) →
       SizesFit a (e.chain header next before t account a)
-  pub callbacks : (header : Header) (next : ℕ) (before : Entries) (t : Transaction) (account : AccountId) (hash : Hash256) (word : ℕ) (a : Draft) →
+  pub callbacks : (header : Header) (next : ℕ) (before : Entries) (t : Transaction) (account : AccountId)
+      (hash : Hash256) (word : ℕ) (a : Draft) →
       SizesFit a (e.callback header next before t account hash word a)
+
+-- what the fields of a transaction are says no more
+abbrev pub TransactionsFit : Type 0
+TransactionsFit = (fields : List Item) (bytes : List ℕ) (sent_by_hook : Bool) (t : Transaction) →
+    IsTransaction fields bytes sent_by_hook t → ItemsFit (readings.Transaction t)

@@ -33,6 +33,9 @@ pub data ItemEnd : Type 0 where
 abbrev pub put_entry : Key → Entry → Draft → Draft
 put_entry k x d = record { entries = insert d.entries k x; written = d.written; emissions = d.emissions }
 
+abbrev pub put_install : AccountId → ℕ → Entry → Draft → Draft
+put_install owner position x d = put_entry (key.Install owner position) x d
+
 abbrev pub cut_entry : Key → Draft → Draft
 cut_entry k d = record { entries = remove d.entries k; written = d.written; emissions = d.emissions }
 
@@ -77,13 +80,14 @@ defined version code c d =
 abbrev pub created : AccountId → ℕ → ℕ → List ℕ → (Hash256 → Entry) → Draft → Option Checked → ItemEnd
 created owner position version code install d None = stops HookRefused
 created owner position version code install d (Some c) =
-    leaves (put_entry (key.Install owner position) (install c.hash) (defined version code c d))
+    leaves (put_install owner position (install c.hash) (defined version code c d))
 
 -- what is given replaces what the Install has
 abbrev pub updated : AccountId → ℕ → Option Hash256 → Option Hash256 → Option (List Parameter) → Option (List Grant) →
     Draft → Option Entry → ItemEnd
-updated owner position on namespace parameters grants d (Some (entry.Install hash was_on was_namespace was_parameters was_grants)) =
-    leaves (put_entry (key.Install owner position) (entry.Install hash (unwrap_or on was_on) (unwrap_or namespace was_namespace) (unwrap_or parameters was_parameters) (unwrap_or grants was_grants)) d)
+updated owner position on namespace parameters grants d (Some (entry.Install hash mask space values leave)) =
+    leaves (put_install owner position
+    (entry.Install hash (unwrap_or on mask) (unwrap_or namespace space) (unwrap_or parameters values) (unwrap_or grants leave)) d)
 updated owner position on namespace parameters grants d other = stops NoInstall
 
 -- one item of an account, at its position
@@ -93,10 +97,12 @@ item_end e owner position (item.DeleteNamespace namespace) d = leaves (emptied o
 item_end e owner position item.Delete d = leaves (cut_entry (key.Install owner position) d)
 item_end e owner position (item.Create code version on namespace parameters grants replace) d =
     if is_occupied owner position replace d then stops Occupied
-    else created owner position version code (λ hash. entry.Install hash on namespace parameters grants) d (e.checks version code)
+    else created owner position version code (λ hash. entry.Install hash on namespace parameters grants) d
+    (e.checks version code)
 item_end e owner position (item.Install hash on namespace parameters grants replace) d =
     if is_occupied owner position replace d then stops Occupied
-    else if has_entry d (key.Definition hash) then leaves (put_entry (key.Install owner position) (entry.Install hash on namespace parameters grants) d)
+    else if has_entry d (key.Definition hash)
+    then leaves (put_install owner position (entry.Install hash on namespace parameters grants) d)
     else stops NoDefinition
 item_end e owner position (item.Update on namespace parameters grants) d =
     updated owner position on namespace parameters grants d (get d.entries (key.Install owner position))

@@ -16,7 +16,8 @@ KeepsChains e = (header : Header) (next : ℕ) (before : Entries) (t : Transacti
     ChainFits e.reads_emitted header.seq before a (e.chain header next before t account a)
 
 abbrev pub KeepsCallbacks : Engine → Type 0
-KeepsCallbacks e = (header : Header) (next : ℕ) (before : Entries) (t : Transaction) (account : AccountId) (hash : Hash256) (word : ℕ) (a : Draft) →
+KeepsCallbacks e = (header : Header) (next : ℕ) (before : Entries) (t : Transaction) (account : AccountId)
+    (hash : Hash256) (word : ℕ) (a : Draft) →
     CallbackFits e.reads_emitted header.seq before a (e.callback header next before t account hash word a)
 
 pub record IsLawful (e : Engine) : Type 0 where

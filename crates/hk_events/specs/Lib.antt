@@ -12,5 +12,6 @@ pub mod Settled
 pub mod Good
 pub mod Complete
 pub mod Limits
+pub mod Overlays
 pub mod Lawful
 pub mod Laws

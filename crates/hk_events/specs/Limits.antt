@@ -50,7 +50,8 @@ pub record IsMeasured (e : Engine) : Type 0 where
   pub reserves : RestsOnOwn e.reserve
   pub chains : (header : Header) (next : ℕ) (before : Entries) (t : Transaction) (account : AccountId) (a : Draft) →
       Fit e next a (e.chain header next before t account a)
-  pub callbacks : (header : Header) (next : ℕ) (before : Entries) (t : Transaction) (account : AccountId) (hash : Hash256) (word : ℕ) (a : Draft) →
+  pub callbacks : (header : Header) (next : ℕ) (before : Entries) (t : Transaction) (account : AccountId)
+      (hash : Hash256) (word : ℕ) (a : Draft) →
       Fit e next a (e.callback header next before t account hash word a)
 
 -- a ledger within these limits, for so many drops

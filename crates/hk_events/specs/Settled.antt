@@ -53,7 +53,13 @@ abbrev pub word_of : ℕ → Settlement
 word_of fee = if nat_lt 0 fee then Applied else Refused
 
 abbrev pub performed_as : Performed → Settled
-performed_as p = record { word = word_of p.fee; result = Some p.result; fee = p.fee; draft = p.draft; records = p.records }
+performed_as p = record {
+  word = word_of p.fee;
+  result = Some p.result;
+  fee = p.fee;
+  draft = p.draft;
+  records = p.records;
+}
 
 -- on the ledger without it
 abbrev pub settlement : Engine → Entries → LedgerValue → Waiting → Settled
@@ -71,18 +77,27 @@ pub record Answered : Type 0 where
   pub draft : Draft
   pub lines : List OutputLine
 
+-- what a callback emitted, behind the emissions of its settlement
+abbrev pub own_part : Draft → Draft → Draft
+own_part s d = record {
+  entries = d.entries;
+  written = d.written;
+  emissions = drop (length s.emissions) d.emissions;
+}
+
 -- what a callback wrote and emitted is kept where it accepts; `next` is the number of the settlement's first emission
 abbrev pub answered : ℕ → Draft → ChainEnd → Answered
 answered next s (kept d records) = record {
   draft = d;
-  lines = kept_lines (next + length s.emissions) (record { entries = d.entries; written = d.written; emissions = drop (length s.emissions) d.emissions }) records;
+  lines = kept_lines (next + length s.emissions) (own_part s d) records;
 }
 answered next s (rejected records) = record { draft = s; lines = records }
 
 -- the callback, where the emission names an account
 abbrev pub called_back : Engine → Entries → LedgerValue → Waiting → Settled → Reading → Option AccountId → Answered
 called_back e before ledger w s (readings.Transaction t) (Some account) =
-    answered ledger.next s.draft (e.callback ledger.header ledger.next before t account w.hash (argument s.word) (relisted s.draft))
+    answered ledger.next s.draft
+    (e.callback ledger.header ledger.next before t account w.hash (argument s.word) (relisted s.draft))
 called_back e before ledger w s other callback = record { draft = s.draft; lines = [] }
 
 abbrev pub settled_by : LedgerValue → ℕ → Settled → Answered → Event
@@ -97,7 +112,8 @@ settled_by ledger number s a =
 -- one emission, on the ledger without it
 abbrev pub settled_waiting : Engine → Entries → LedgerValue → ℕ → Waiting → Event
 settled_waiting e before ledger number w =
-    settled_by ledger number (settlement e before ledger w) (called_back e before ledger w (settlement e before ledger w) (e.reads_emitted w.blob) w.callback)
+    settled_by ledger number (settlement e before ledger w)
+    (called_back e before ledger w (settlement e before ledger w) (e.reads_emitted w.blob) w.callback)
 
 -- under this number nothing waits
 abbrev pub nothing_settled : LedgerValue → Event
@@ -105,7 +121,8 @@ nothing_settled ledger = record { ledger = ledger; result = None; fee = 0; lines
 
 abbrev pub settled_entry : Engine → LedgerValue → ℕ → Option Entry → Event
 settled_entry e ledger number (Some (entry.Emitted blob hash first last callback)) =
-    settled_waiting e ledger.entries (without ledger number) number (record { blob = blob; hash = hash; first = first; last = last; callback = callback })
+    settled_waiting e ledger.entries (without ledger number) number
+    (record { blob = blob; hash = hash; first = first; last = last; callback = callback })
 settled_entry e ledger number other = nothing_settled ledger
 
 abbrev pub settled : Engine → LedgerValue → ℕ → Event
@@ -130,6 +147,11 @@ abbrev pub is_due : ℕ → Entry → Bool
 is_due seq (entry.Emitted blob hash first last callback) = nat_le first seq
 is_due seq other = false
 
+-- an entry is there, and passes
+abbrev pub passes : (Entry → Bool) → Option Entry → Bool
+passes test None = false
+passes test (Some x) = test x
+
 abbrev pub due : LedgerValue → List ℕ
 due ledger = numbers (is_due ledger.header.seq) (entries ledger.entries)
 
@@ -151,7 +173,8 @@ and_then event later = record { ledger = later.ledger; lines = event.lines ++ la
 
 abbrev pub settled_all : Engine → LedgerValue → List ℕ → Opened
 settled_all e ledger [] = record { ledger = ledger; lines = [] }
-settled_all e ledger (number ∷ later) = and_then (settled e ledger number) (settled_all e (settled e ledger number).ledger later)
+settled_all e ledger (number ∷ later) =
+    and_then (settled e ledger number) (settled_all e (settled e ledger number).ledger later)
 
 -- a ledger is opened, and the emissions that are due are settled
 abbrev pub opened : Engine → LedgerValue → Header → Opened

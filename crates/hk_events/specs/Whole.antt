@@ -24,7 +24,9 @@ use Rattle.hk_events.specs.Events.{Event}
 -- what a `state` line tells of a key
 abbrev pub change_of : StateKey → OutputLine → Option (Option Entry)
 change_of q (printed.State account namespace k value) =
-    if is_key (as_key q) (key.State account namespace k) then Some (option_map (λ bytes. entry.State bytes) value) else None
+    if is_key (as_key q) (key.State account namespace k)
+    then Some (option_map (λ bytes. entry.State bytes) value)
+    else None
 change_of q other = None
 
 -- an entry that waits for these ledgers
@@ -85,7 +87,8 @@ HasFailed event = event.result ≢ Some Success
 -- behind a `callback` line alone, and nothing else changes but the sender's account and the burnt fees; and these too
 -- stay as they are where there is no fee.
 pub record IsWholeOrNothing (before : LedgerValue) (event : Event) (sender : Option AccountId) : Type 0 where
-  pub state : (q : StateKey) → get event.ledger.entries (as_key q) ≡ change_or (last_of (change_of q) event.lines) (get before.entries (as_key q))
+  pub state : (q : StateKey) → get event.ledger.entries (as_key q)
+      ≡ change_or (last_of (change_of q) event.lines) (get before.entries (as_key q))
   pub queued : Each (IsQueuedIn event.ledger.entries) event.lines
   pub next : event.ledger.next ≡ before.next + counted is_emission event.lines
   pub gone : (n : ℕ) → 1 ≤ counted (is_settled n) event.lines → get event.ledger.entries (key.Emitted n) ≡ None

@@ -1,4 +1,8 @@
-ghost use Rattle.hk_events.specs.Laws.{AppliedHolds, SettledHolds, DueFalls, SettlesWhileDue, StaysComplete, StaysWithin, ReserveRests};
+ghost use Rattle.hk_events.specs.Laws.{AppliedHolds, SettledHolds, DueFalls, SettlesWhileDue};
+ghost use Rattle.hk_events.specs.Laws.{StaysComplete, StaysWithin, ReserveRests, NamespacesEmptied};
+ghost use Rattle.hk_events.specs.Laws.{FindsDue, FindsNone, OverlaysSo};
+ghost use Rattle.hk_events.specs.Complete.{TransactionsFit};
+ghost use Rattle.hk_events.specs.Overlays.{CommitsSo};
 
 /// A transaction changes State entries only as it may, changes all that it prints and nothing else, and keeps the queue
 /// good and the sum of all drops.
@@ -21,7 +25,8 @@ pub fn settles_while_due()
     ensures law { SettlesWhileDue }
 {}
 
-/// Each event keeps what a ledger has of hooks complete: accepted Definitions, Installs of them, State entries of accounts.
+/// Each event keeps what a ledger has of hooks complete: accepted Definitions, Installs of them, and State entries of
+/// accounts.
 pub fn stays_complete()
     ensures law { StaysComplete }
 {}
@@ -34,4 +39,26 @@ pub fn stays_within()
 /// The reserve of an account rests on its Installs and State entries alone.
 pub fn reserve_rests()
     ensures law { ReserveRests }
+{}
+
+/// A namespace that an item deletes has no State entry left.
+pub fn namespaces_emptied()
+    ensures law { NamespacesEmptied }
+{}
+
+/// The least due number is found by look-ups of the queue's keys.
+pub fn finds_due()
+    ensures law { FindsDue }
+    ensures none { FindsNone }
+{}
+
+/// An overlay's writes are those of its draft, and a commit of them with the queued emissions is what enters the ledger.
+pub fn committing()
+    ensures overlays { OverlaysSo }
+    ensures commits { CommitsSo }
+{}
+
+/// A transaction that fields are has items within the limits of Installs.
+pub fn transactions_fit()
+    ensures law { TransactionsFit }
 {}

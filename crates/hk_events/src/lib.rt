@@ -4,6 +4,6 @@
 mod laws;
 
 pub use laws::{
-    applied_events, due_falls, reserve_rests, settled_events, settles_while_due, stays_complete,
-    stays_within,
+    applied_events, committing, due_falls, finds_due, namespaces_emptied, reserve_rests,
+    settled_events, settles_while_due, stays_complete, stays_within, transactions_fit,
 };
