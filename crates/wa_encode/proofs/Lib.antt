@@ -1,0 +1,4 @@
+pub mod Items
+pub mod ModuleSpelled
+pub mod Shortest
+pub mod Writing
