@@ -4,6 +4,9 @@ use Rattle.wa_exec.specs.Runs.{RunsWithin, named}
 use Rattle.hk_bound.specs.Checks.{Held, Holds, IsHeld}
 use Rattle.hk_bound.specs.declared.fault.Export.{Export}
 use Rattle.hk_bound.specs.declared.fault.Export.TheVariants as «export»
+use Rattle.hk_api.specs.HostState.{HostState}
+use Rattle.hk_chain.specs.Calls.{hook_meaning}
+use Rattle.hk_alone.specs.Context as alone
 use Rattle.hk_lines.specs.Ended.{HasStatus}
 use Rattle.hk_lines.specs.Given.{ended}
 use Rattle.hk_lines.specs.Numbers.{longest_input}
@@ -13,11 +16,12 @@ use Rattle.hk_lines.specs.OutputForms.{line_text}
 use Rattle.hk_lines.specs.declared.output_line.OutputLine.TheVariants as printed
 use Rattle.hk_lines.proofs.Ending.{gives_status_law}
 use Rattle.hk_ledger.specs.Machine as machine
+use Rattle.hk_replay.proofs.Deciding.{held_verdict}
 use Rattle.hk_replay.specs.declared.command.Command.{Command}
 use Rattle.hk_replay.specs.declared.command.Command.TheVariants.{Hook, Replay, Other}
 use Rattle.hk_replay.specs.declared.command.Question.{Question}
 use Rattle.hk_replay.specs.declared.command.Question.TheVariants.{Check, Run}
-use Rattle.hk_replay.specs.Answers.{version, IsDecided, SomeAnswer, IsReply, Replies, GivesFor, no_calls, hook_code}
+use Rattle.hk_replay.specs.Answers.{version, SomeAnswer, IsReply, Replies, GivesFor, hook_code}
 use Rattle.hk_replay.specs.Answers.{hook_lines, replay_lines, usage_line, command_of}
 use Rattle.hk_replay.specs.HookLines.{hook_turn}
 use Rattle.hk_replay.specs.VerdictLines.{accepted_line, refused_line}
@@ -31,7 +35,7 @@ held_so code held holds =
 
 -- each run of a hook has an ending
 abbrev pub EachRun : Type 0
-EachRun = (held : Held) → IsHeld held → (which : Export) → RunsWithin ℕ held.wasm (named which)
+EachRun = (held : Held) → IsHeld held → (which : Export) → RunsWithin HostState held.wasm (named which)
 
 -- a code has some answer
 some_reply : EachRun → (question : Question) (code : List ℕ) → HasVerdict version code →
@@ -40,7 +44,7 @@ some_reply law Check code (inl (held, holds)) =
     (accepted_line held, Done, record { held = held; holds = holds; line = refl })
 some_reply law Run code (inl (held, holds)) =
     let most =
-    law held (held_so code held holds) «export».Hook version no_calls 0 0 held.bound_hook
+    law held (held_so code held holds) «export».Hook version hook_meaning 0 (alone.host code held) held.bound_hook
     (omega arith) holds.bound_hook in (
       line_text (printed.Run most.outcome most.count held.bound_hook),
       Done,
@@ -63,18 +67,19 @@ some_replies : EachRun → (question : Question) (code shown : List ℕ) (status
 some_replies law question code shown Done verdict = some_reply law question code verdict
 some_replies law question code shown other verdict = (shown, other, (refl, refl))
 
-some_for : EachRun → (command : Command) (bytes : List ℕ) → IsDecided command bytes →
+some_for : EachRun → (command : Command) (bytes : List ℕ) →
     (text : List ℕ) × (status : Status) × GivesFor command bytes text status
-some_for law (Hook question) bytes verdict =
+some_for law (Hook question) bytes =
+    let verdict = held_verdict version (hook_code bytes) (omega arith) in
     let has : HasStatus (hook_lines bytes ended) = gives_status_law hook_turn longest_input None bytes in
     let some = some_replies law question (hook_code bytes) (hook_lines bytes ended).text has.0 verdict in
     let replies : Option Status → Type 0 =
     λ found. Replies question (hook_code bytes) found (hook_lines bytes ended).text some.0 some.1 in
     (some.0, some.1, subst replies (sym has.1) some.2)
-some_for law Replay bytes verdict =
+some_for law Replay bytes =
     let has : HasStatus (replay_lines bytes ended) = gives_status_law replay_turn longest_input machine.start bytes in
     ((replay_lines bytes ended).text, has.0, (refl, has.1))
-some_for law Other bytes verdict = (usage_line, Usage, (refl, refl))
+some_for law Other bytes = (usage_line, Usage, (refl, refl))
 
 pub some_answer : EachRun → SomeAnswer
-some_answer law words bytes decided = some_for law (command_of words) bytes decided
+some_answer law words bytes = some_for law (command_of words) bytes

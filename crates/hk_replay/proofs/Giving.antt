@@ -8,6 +8,10 @@ use Rattle.hk_base.specs.declared.ids.Hash256.{Hash256}
 use Rattle.wa_ops.specs.HookRules.{is_hook}
 use Rattle.wa_exec.specs.Runs.{OneEnding}
 use Rattle.wa_machine.specs.Runs.{IsRun}
+use Rattle.hk_api.specs.HostState.{HostState}
+use Rattle.hk_chain.specs.Calls.{hook_meaning}
+use Rattle.hk_alone.specs.Context as alone
+use Rattle.hk_alone.proofs.OneHost.{one_host}
 use Rattle.hk_lines.specs.Given.{ended}
 use Rattle.hk_lines.specs.OutputForms.{line_text}
 use Rattle.hk_lines.specs.declared.output_line.OutputLine.TheVariants as printed
@@ -18,7 +22,7 @@ use Rattle.hk_replay.specs.declared.command.Command.{Command}
 use Rattle.hk_replay.specs.declared.command.Command.TheVariants.{Hook, Replay, Other}
 use Rattle.hk_replay.specs.declared.command.Question.{Question}
 use Rattle.hk_replay.specs.declared.command.Question.TheVariants.{Check, Run}
-use Rattle.hk_replay.specs.Answers.{version, IsAccepted, IsRunOf, IsRefusal, Accepts, no_calls, IsReply, Replies}
+use Rattle.hk_replay.specs.Answers.{version, IsAccepted, IsRunOf, IsRefusal, Accepts, IsReply, Replies}
 use Rattle.hk_replay.specs.Answers.{hook_code, hook_lines, replay_lines, GivesFor, command_of, IsSame, OneAnswer}
 use Rattle.hk_replay.specs.VerdictLines.{cbak_text, refused_line}
 use Rattle.hk_replay.specs.Moved.{Answered}
@@ -42,12 +46,17 @@ accepted_once code first second x y =
           (hex_text hash.0 ++ (codes " hook " ++ (decimal bound ++ (codes " cbak " ++ (cbak_text cbak ++ 10 ∷ [])))))
 
 -- and its run has one
-run_once : OneEnding ℕ → (code first second : List ℕ) → IsRunOf code first → IsRunOf code second → first ≡ second
+run_once : OneEnding HostState → (code first second : List ℕ) → IsRunOf code first → IsRunOf code second → first ≡ second
 run_once law code first second x y =
     let run =
-    subst (λ m. IsRun no_calls m is_hook 0 0 x.outcome x.count x.after)
+    subst (λ m. IsRun hook_meaning m is_hook 0 (alone.host code x.held) x.outcome x.count x.after)
     (one_module_held version code x.held y.held x.holds y.holds) x.run in
-    let same = law no_calls y.held.wasm is_hook 0 0 x.outcome y.outcome x.count y.count x.after y.after run y.run in
+    let from =
+    subst (λ h. IsRun hook_meaning y.held.wasm is_hook 0 h x.outcome x.count x.after)
+    (one_host version code x.held y.held x.holds y.holds) run in
+    let same =
+    law hook_meaning y.held.wasm is_hook 0 (alone.host code y.held) x.outcome y.outcome x.count y.count
+    x.after y.after from y.run in
     x.line
     ∙ ap (λ outcome. line_text (printed.Run outcome x.count x.held.bound_hook)) same.0
     ∙ ap (λ count. line_text (printed.Run y.outcome count x.held.bound_hook)) same.1
@@ -55,7 +64,7 @@ run_once law code first second x y =
     (one_hook_bound version code x.held y.held x.holds y.holds)
     ∙ sym y.line
 
-accepts_once : OneEnding ℕ → (question : Question) (code first second : List ℕ) → Accepts question code first →
+accepts_once : OneEnding HostState → (question : Question) (code first second : List ℕ) → Accepts question code first →
     Accepts question code second → first ≡ second
 accepts_once law Check code first second x y = accepted_once code first second x y
 accepts_once law Run code first second x y = run_once law code first second x y
@@ -68,7 +77,7 @@ accepted_not_refused Check code first second x y =
 accepted_not_refused Run code first second x y = holds_or_refused version code x.held y.found x.holds y.refused y.named
 
 -- a code has one answer
-one_reply : OneEnding ℕ → (question : Question) (code first second : List ℕ) (status other : Status) →
+one_reply : OneEnding HostState → (question : Question) (code first second : List ℕ) (status other : Status) →
     IsReply question code first status → IsReply question code second other →
     IsSame first second status other
 one_reply law question code first second Done Done x y =
@@ -85,7 +94,7 @@ one_reply law question code first second HookRefused other x y = absurd y
 one_reply law question code first second status other x y = absurd x
 
 -- so have lines
-one_replies : OneEnding ℕ → (question : Question) (code : List ℕ) (found : Option Status)
+one_replies : OneEnding HostState → (question : Question) (code : List ℕ) (found : Option Status)
     (shown first second : List ℕ) (status other : Status) →
     Replies question code found shown first status → Replies question code found shown second other →
     IsSame first second status other
@@ -99,7 +108,7 @@ same_status : (found : Option Status) (status other : Status) → found ≡ Some
     status ≡ other
 same_status found status other x y = cc
 
-one_for : OneEnding ℕ → (command : Command) (bytes first second : List ℕ) (status other : Status) →
+one_for : OneEnding HostState → (command : Command) (bytes first second : List ℕ) (status other : Status) →
     GivesFor command bytes first status → GivesFor command bytes second other → IsSame first second status other
 one_for law (Hook question) bytes first second status other x y =
     one_replies law question (hook_code bytes) (hook_lines bytes ended).status
@@ -108,12 +117,12 @@ one_for law Replay bytes first second status other x y =
     record { text = x.0 ∙ sym y.0; answer = same_status (replay_lines bytes ended).status status other x.1 y.1 }
 one_for law Other bytes first second status other x y = record { text = x.0 ∙ sym y.0; answer = x.1 ∙ sym y.1 }
 
-pub one_answer : OneEnding ℕ → OneAnswer
+pub one_answer : OneEnding HostState → OneAnswer
 one_answer law words bytes first second status other x y =
     one_for law (command_of words) bytes first second status other x y
 
 -- what is given is the answer, but for want of memory
-pub exact_answer : OneEnding ℕ → (command : Command) (bytes text : List ℕ) (result status : Status)
+pub exact_answer : OneEnding HostState → (command : Command) (bytes text : List ℕ) (result status : Status)
     (before now : Option (List ℕ)) →
     (IsAnswer result → Answered command bytes result before now) → (result ≡ ReadFault → ⊥) →
     (result ≡ WriteFault → ⊥) →

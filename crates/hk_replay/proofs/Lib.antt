@@ -5,6 +5,7 @@ pub mod Stopping
 pub mod Conserving
 pub mod Together
 pub mod Folding
+pub mod Holding
 pub mod HookFolding
 pub mod Answering
 pub mod Deciding

@@ -1,11 +1,12 @@
 -- What the program prints and answers, by its words and the bytes of its input (this project's own).
-use Rattle.std.specs.Prelude.{ℕ, pos, ◌≡◌, ◌≢◌, ◌≤◌, List, [], ◌∷◌, ◌++◌, codes, if◌then◌else◌, Option, Some, None}
+use Rattle.std.specs.Prelude.{ℕ, ◌≡◌, ◌≢◌, ◌≤◌, List, [], ◌∷◌, ◌++◌, codes, if◌then◌else◌, Option, Some, None}
 use Rattle.std.specs.Str.{bytes_eq}
 use Rattle.hk_base.specs.declared.outcome.Outcome.{Outcome}
 use Rattle.wa_ops.specs.HookRules.{is_hook}
-use Rattle.wa_machine.specs.Machine.{HostMeaning}
 use Rattle.wa_machine.specs.Runs.{IsRun}
-use Rattle.wa_machine.specs.Starts.{meaning_of}
+use Rattle.hk_api.specs.HostState.{HostState}
+use Rattle.hk_chain.specs.Calls.{hook_meaning}
+use Rattle.hk_alone.specs.Context as alone
 use Rattle.hk_bound.specs.Checks.{Held, Holds, IsRefused}
 use Rattle.hk_bound.specs.declared.fault.CheckFault.{CheckFault}
 use Rattle.hk_bound.specs.declared.fault.CheckFault.TheVariants as fault
@@ -24,7 +25,6 @@ use Rattle.hk_replay.specs.declared.command.Question.{Question}
 use Rattle.hk_replay.specs.declared.command.Question.TheVariants.{Check, Run}
 use Rattle.hk_replay.specs.HookLines.{hook_turn}
 use Rattle.hk_replay.specs.VerdictLines.{accepted_line, refused_line}
-use Rattle.hk_replay.specs.Verdicts.{HasVerdict}
 use Rattle.hk_replay.specs.Replaying.{replay_turn}
 
 -- the command that the words name
@@ -49,20 +49,15 @@ pub record IsAccepted (code text : List ℕ) : Type 0 where
   pub holds : Holds version code held
   pub line : text ≡ accepted_line held
 
--- a host of no calls: it has one state
-abbrev pub no_calls : HostMeaning ℕ
-no_calls =
-    meaning_of (λ state row arguments memory. pos 0) (λ state row arguments memory. memory)
-    (λ state row arguments memory. state)
-
--- the code is accepted, and the line is that of its `hook`, run with argument 0 to its end
+-- the code is accepted, and the line is that of its `hook`, run with argument 0 to its end over the calls of hooks, on
+-- a ledger of its own
 pub record IsRunOf (code text : List ℕ) : Type 0 where
   pub held : Held
   pub holds : Holds version code held
   pub outcome : Outcome
   pub count : ℕ
-  pub after : ℕ
-  pub run : IsRun no_calls held.wasm is_hook 0 0 outcome count after
+  pub after : HostState
+  pub run : IsRun hook_meaning held.wasm is_hook 0 (alone.host code held) outcome count after
   pub line : text ≡ line_text (printed.Run outcome count held.bound_hook)
 
 -- a run's printed count is at most its printed bound
@@ -140,12 +135,7 @@ abbrev pub OneAnswer : Type 0
 OneAnswer = (words : List (List ℕ)) (bytes first second : List ℕ) (status other : Status) →
     Gives words bytes first status → Gives words bytes second other → IsSame first second status other
 
--- the code to which the lines of `check` and `run` lead has its verdict; no other command has a code
-abbrev pub IsDecided : Command → List ℕ → Type 0
-IsDecided (Hook question) bytes = HasVerdict version (hook_code bytes)
-IsDecided command bytes = Unit {0}
-
 -- words and an input have some text and some status
 abbrev pub SomeAnswer : Type 0
-SomeAnswer = (words : List (List ℕ)) (bytes : List ℕ) → IsDecided (command_of words) bytes →
+SomeAnswer = (words : List (List ℕ)) (bytes : List ℕ) →
     (text : List ℕ) × (status : Status) × Gives words bytes text status

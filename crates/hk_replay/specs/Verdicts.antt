@@ -1,5 +1,5 @@
 -- That each code has its verdict (this project's own).
-use Rattle.std.specs.Prelude.{ℕ, ◌≢◌, ◌⊎◌, List}
+use Rattle.std.specs.Prelude.{ℕ, ◌≢◌, ◌≤◌, ◌⊎◌, List}
 use Rattle.wa_ops.specs.declared.modules.Module.{Module}
 use Rattle.hk_bound.specs.Checks.{Held, Holds, IsHook, IsRefused}
 use Rattle.hk_bound.specs.declared.fault.CheckFault.{CheckFault}
@@ -10,6 +10,10 @@ abbrev pub HasVerdict : ℕ → List ℕ → Type 0
 HasVerdict version code =
     ((held : Held) × Holds version code held)
     ⊎ ((found : CheckFault) × IsRefused version code found × (found ≢ fault.NoMemory))
+
+-- in each version of the machine, 0 and 1, each code has it
+abbrev pub HeldVerdict : Type 0
+HeldVerdict = (version : ℕ) (code : List ℕ) → version ≤ 1 → HasVerdict version code
 
 -- no code is neither accepted nor refused
 abbrev pub EachVerdict : Type 0

@@ -1,25 +1,29 @@
 ghost use Rattle.hk_replay.specs.Answers.{OneAnswer, PrintedCounts, SomeAnswer};
 ghost use Rattle.hk_replay.specs.HookLines.{HookFolds};
 ghost use Rattle.hk_replay.specs.ReplayLines.{ReplayFolds};
-ghost use Rattle.hk_replay.specs.Verdicts.{EachVerdict};
+ghost use Rattle.hk_replay.specs.Verdicts.{EachVerdict, HeldVerdict};
 
-use crate::no_host::NoHost;
+use hk_chain::HookHost;
 use wa_exec::{one_ending, runs_within};
 
 /// The law that words and an input have one text and one status.
 pub fn one_answer()
     ensures law { OneAnswer }
 {
-    one_ending::<NoHost>();
+    one_ending::<HookHost>();
 }
 
-/// The law that words and an input have some text and some status, where a code that is asked of is accepted or
-/// refused.
+/// The law that words and an input have some text and some status.
 pub fn some_answer()
     ensures law { SomeAnswer }
 {
-    runs_within::<NoHost>();
+    runs_within::<HookHost>();
 }
+
+/// The law that each code has its verdict: all that is kept of it where it is accepted, or why it is refused.
+pub fn held_verdict()
+    ensures law { HeldVerdict }
+{}
 
 /// The law that no code is neither accepted nor refused.
 pub fn each_verdict()
@@ -30,8 +34,8 @@ pub fn each_verdict()
 pub fn printed_counts()
     ensures law { PrintedCounts }
 {
-    one_ending::<NoHost>();
-    runs_within::<NoHost>();
+    one_ending::<HookHost>();
+    runs_within::<HookHost>();
 }
 
 /// A replay is the lines of its input, with the ledger machine folded over them.

@@ -6,7 +6,6 @@ mod hook;
 mod hook_lines;
 mod laws;
 mod limits;
-mod no_host;
 mod program;
 mod replay;
 mod replaying;
@@ -18,6 +17,8 @@ mod verdict;
 mod words;
 
 pub use hk_lines::Status;
-pub use laws::{each_verdict, hook_folds, one_answer, printed_counts, replay_folds, some_answer};
+pub use laws::{
+    each_verdict, held_verdict, hook_folds, one_answer, printed_counts, replay_folds, some_answer,
+};
 pub use program::top;
 pub use status::exit_status;

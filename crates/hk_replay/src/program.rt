@@ -9,9 +9,9 @@ ghost use Rattle.hk_replay.specs.Moved.{Answered, Stops, TellsUsage};
 
 use crate::command::{Command, command_of};
 use crate::hook::answer_hook;
-use crate::no_host::NoHost;
 use crate::replay::answer_replay;
 use hk_base::{Sink, Source};
+use hk_chain::HookHost;
 use hk_lines::Status;
 use hk_loop::write_answer;
 use std::alloc::Global;
@@ -61,7 +61,7 @@ pub fn top<S: Source, K: Sink>(
     ensures cause { HasCause result (S.faults source.old) (S.faults source.new)
         (K.faults sink.old) (K.faults sink.new) }
 {
-    one_ending::<NoHost>();
+    one_ending::<HookHost>();
     match command_of(words) {
         Command::Hook(question) => answer_hook(alloc, question, source, sink),
         Command::Replay => answer_replay(alloc, source, sink),

@@ -1,16 +1,16 @@
 //! What a code is answered.
-ghost use Rattle.std.specs.Prelude.{◌≡◌, List, ℕ, IfOk};
+ghost use Rattle.std.specs.Prelude.{◌≡◌, IfOk};
 ghost use Rattle.hk_bound.specs.Checks.{Holds};
 ghost use Rattle.hk_replay.specs.Answers.{IsReply, IsRunOf, Accepts, version};
 
 use crate::command::Question;
-use crate::no_host::NoHost;
 use crate::verdict::{accepted_line, refused_line};
+use hk_alone::run_alone;
 use hk_base::NoMemory;
 use hk_bound::{CheckFault, Checked, check};
 use hk_lines::{OutputLine, Status, print_line};
 use std::alloc::{AllocError, Global};
-use wa_exec::{Ended, Export, Instance};
+use wa_exec::Ended;
 
 /// A text and a status.
 #[derive(Debug, Drop)]
@@ -26,7 +26,7 @@ pub(crate) fn reply_to(alloc: Global, question: Question, code: &[u8]) -> Result
 {
     match check(alloc, code) {
         Ok(checked) => {
-            let text = accepted(alloc, question, &checked)?;
+            let text = accepted(alloc, question, code, &checked)?;
             Ok(Reply {
                 text,
                 status: Status::Done,
@@ -45,26 +45,28 @@ pub(crate) fn reply_to(alloc: Global, question: Question, code: &[u8]) -> Result
 }
 
 // What an accepted code is answered.
-fn accepted(alloc: Global, question: Question, checked: &Checked) -> Result<Vec<u8>, NoMemory>
-    ensures accepts { IfOk result (λ text.
-        (code : List ℕ) → Holds version code checked.now → Accepts question code text.items) }
+fn accepted(
+    alloc: Global,
+    question: Question,
+    code: &[u8],
+    checked: &Checked,
+) -> Result<Vec<u8>, NoMemory>
+    ensures accepts { IfOk result (λ text. Holds version code.now checked.now → Accepts question code.now text.items) }
 {
     match question {
         Question::Check => {
             let line = accepted_line(alloc, checked)?;
             Vec::from_slice(alloc, line.as_bytes())
         }
-        Question::Run => run_to_end(alloc, checked),
+        Question::Run => run_to_end(alloc, code, checked),
     }
 }
 
 // Runs `hook` with argument 0, and answers the line of its ending.
-fn run_to_end(alloc: Global, checked: &Checked) -> Result<Vec<u8>, NoMemory>
-    ensures line { IfOk result (λ text. (code : List ℕ) → Holds version code checked.now → IsRunOf code text.items) }
+fn run_to_end(alloc: Global, code: &[u8], checked: &Checked) -> Result<Vec<u8>, NoMemory>
+    ensures line { IfOk result (λ text. Holds version code.now checked.now → IsRunOf code.now text.items) }
 {
-    let instance = Instance::new(alloc, checked, Export::Hook, 0)?;
-    let mut host = NoHost;
-    let Ended { outcome, count } = instance.run(checked, &mut host)?;
+    let Ended { outcome, count } = run_alone(alloc, checked, code)?;
     let mut text = Vec::new(alloc);
     print_line(
         &mut text,

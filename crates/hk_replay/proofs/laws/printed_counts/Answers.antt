@@ -1,7 +1,9 @@
 use Rattle.std.proofs.Common.{◌≡◌, arith}
 use Rattle.wa_ops.specs.HookRules.{is_hook}
 use Rattle.hk_bound.specs.declared.fault.Export.TheVariants as «export»
-use Rattle.hk_replay.specs.Answers.{version, no_calls}
+use Rattle.hk_replay.specs.Answers.{version}
+use Rattle.hk_chain.specs.Calls.{hook_meaning}
+use Rattle.hk_alone.specs.Context as alone
 use Rattle.hk_replay.proofs.Answering.{held_so}
 use Rattle.hk_replay.proofs.laws.printed_counts.Goals as goal
 
@@ -11,10 +13,10 @@ returns c = record {
       let held = answer.held in
       let most =
       c.runs_within.ensures.law held
-      (held_so code held answer.holds) «export».Hook version no_calls 0 0 held.bound_hook
+      (held_so code held answer.holds) «export».Hook version hook_meaning 0 (alone.host code held) held.bound_hook
       (omega arith) answer.holds.bound_hook in
       let same =
-      c.one_ending.ensures.law no_calls held.wasm is_hook 0 0 answer.outcome most.outcome answer.count most.count
+      c.one_ending.ensures.law hook_meaning held.wasm is_hook 0 (alone.host code held) answer.outcome most.outcome answer.count most.count
       answer.after most.after answer.run most.run in
       let counts : answer.count ≡ most.count = same.1 in
       let within = most.within in omega (arith, counts, within);

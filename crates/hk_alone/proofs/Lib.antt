@@ -1,0 +1,4 @@
+pub mod Blob
+pub mod OneHost
+pub mod Beginning
+pub mod Fitting
