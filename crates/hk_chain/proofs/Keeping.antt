@@ -1,7 +1,7 @@
 -- What is kept of programs, as more of them are checked.
 use Rattle.std.proofs.Common.{◌≡◌, ◌∙◌, ℕ, Bool, true, false, cond, List, Option, Some, None, refl, sym, ap, subst}
-use Rattle.std.specs.Prelude.{◌⊎◌, is_some, option_map, IsSome, IfOk, OnErr, OnOk, Result, Ok, Err}
-use Rattle.std.proofs.Common.{inl, inr, rules}
+use Rattle.std.specs.Prelude.{◌⊎◌, is_some, option_map, IfOk, OnErr, OnOk, Result, Ok, Err}
+use Rattle.std.proofs.Common.{inl, inr}
 use Rattle.std.specs.FinMap as map
 use Rattle.std.proofs.lemmas.Option.{same_Some}
 use Rattle.hk_base.specs.declared.ids.Hash256.{Hash256}
@@ -12,7 +12,6 @@ use Rattle.hk_bound.specs.declared.fault.Export.TheVariants as «export»
 use Rattle.hk_bound.proofs.Acceptance.{accepted_is_hook}
 use Rattle.wa_exec.specs.Made.{is_there}
 use Rattle.wa_exec.specs.Runs.{named}
-use Rattle.wa_ops.specs.declared.modules.Module.{Module}
 use Rattle.hk_state.specs.declared.entry.Entry.{Entry}
 use Rattle.hk_state.specs.declared.entry.Entry.TheVariants as entry
 use Rattle.hk_state.specs.declared.key.Key.{Key}

@@ -2,4 +2,10 @@ pub mod Keeping
 pub mod Running
 pub mod Chaining
 pub mod CallingBack
-pub mod Within
+pub mod Leading
+pub mod Walking
+pub mod Turns
+pub mod Fitting
+pub mod ChainFits
+pub mod CallbackFits
+pub mod Counting

@@ -1,6 +1,5 @@
 -- What the code's answers say by the definitions (this project's own).
-use Rattle.std.specs.Prelude.{ℕ, ◌≡◌, List}
-use Rattle.hk_emit.specs.declared.emission.Emission.{Emission}
+use Rattle.std.specs.Prelude.{◌≡◌}
 use Rattle.hk_state.specs.Entries.{Entries}
 use Rattle.hk_state.specs.Writes.{with_writes}
 use Rattle.hk_draft.specs.Drafted.{draft_of}

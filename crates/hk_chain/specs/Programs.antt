@@ -10,7 +10,6 @@ use Rattle.hk_bound.specs.declared.fault.Export.{Export}
 use Rattle.wa_exec.specs.Runs.{named}
 use Rattle.wa_ops.specs.HookRules.{is_hook, is_cbak}
 use Rattle.wa_ops.specs.declared.modules.Module.{Module}
-use Rattle.hk_state.specs.declared.entry.Entry.{Entry}
 use Rattle.hk_state.specs.declared.entry.Entry.TheVariants as entry
 use Rattle.hk_state.specs.declared.key.Key.{Key}
 use Rattle.hk_state.specs.declared.key.Key.TheVariants as key

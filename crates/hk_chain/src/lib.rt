@@ -14,6 +14,8 @@ pub use callback::run_callback;
 pub use chain::run_chain;
 pub use ending::ChainEnd;
 pub use host::HookHost;
-pub use laws::{calls_keep_length, counts_within};
+pub use laws::{
+    callbacks_fit, callbacks_run, calls_keep_length, chains_fit, hooks_run, lines_bounded,
+};
 pub use programs::Programs;
 pub use work::HookRun;

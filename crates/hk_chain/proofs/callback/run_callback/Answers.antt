@@ -1,4 +1,4 @@
-use Rattle.std.proofs.Common.{◌≡◌, ◌∙◌, ◌+◌, ◌-◌, ap, arith, refl, subst, sym}
+use Rattle.std.proofs.Common.{◌+◌, ◌-◌, ap, arith, refl, subst}
 use Rattle.hk_draft.specs.Drafted.{draft_of}
 use Rattle.hk_chain.specs.declared.ending.ChainEnd.TheVariants as found
 use Rattle.hk_chain.specs.Callback.{callback_at, callback_from, callback_of}

@@ -1,4 +1,4 @@
-use Rattle.std.proofs.Common.{◌≡◌, ◌∙◌, ◌+◌, ◌-◌, ◌++◌, ◌∷◌, [], ap, ap₂, arith, refl, rules, subst, sym}
+use Rattle.std.proofs.Common.{◌∙◌, ◌+◌, ◌-◌, ◌++◌, ◌∷◌, [], ap, ap₂, arith, refl, rules, subst, sym}
 use Rattle.hk_draft.specs.Drafted.{draft_of}
 use Rattle.hk_chain.specs.declared.ending.ChainEnd.TheVariants as found
 use Rattle.hk_chain.specs.Chain.{chain_from, chain_of, play_at}

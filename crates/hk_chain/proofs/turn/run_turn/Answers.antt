@@ -1,7 +1,5 @@
-use Rattle.std.proofs.Common.{◌≡◌, ◌∙◌, Some, ap, subst, sym}
-use Rattle.std.specs.FinMap.{get}
+use Rattle.std.proofs.Common.{◌∙◌, Some, ap, subst, sym}
 use Rattle.hk_state.specs.declared.entry.Entry.TheVariants as entry
-use Rattle.hk_state.specs.declared.key.Key.TheVariants as key
 use Rattle.hk_bound.specs.Checks.{Holds}
 use Rattle.hk_api_parts.specs.declared.place.Place.{Place}
 use Rattle.hk_chain.specs.Meets.{IsPlay, passing}
