@@ -1,6 +1,8 @@
 //! What a code is answered.
 ghost use Rattle.std.specs.Prelude.{◌≡◌, IfOk};
 ghost use Rattle.hk_bound.specs.Checks.{Holds};
+ghost use Rattle.hk_lines.specs.OutputForms.{line_text};
+ghost use Rattle.hk_lines.specs.declared.output_line.OutputLine.TheVariants as printed;
 ghost use Rattle.hk_replay.specs.Answers.{IsReply, IsRunOf, Accepts, version};
 
 use crate::command::Question;
@@ -66,14 +68,23 @@ fn accepted(
 fn run_to_end(alloc: Global, code: &[u8], checked: &Checked) -> Result<Vec<u8>, NoMemory>
     ensures line { IfOk result (λ text. Holds version code.now checked.now → IsRunOf code.now text.items) }
 {
-    let Ended { outcome, count } = run_alone(alloc, checked, code)?;
+    let ended = run_alone(alloc, checked, code)?;
+    let bound = checked.bound_hook();
+    run_line(alloc, ended, bound)
+}
+
+// The line of a run's ending.
+fn run_line(alloc: Global, ended: Ended, bound: u64) -> Result<Vec<u8>, NoMemory>
+    ensures line { IfOk result (λ text. text.items ≡ line_text (printed.Run ended.outcome ended.count bound)) }
+{
+    let Ended { outcome, count } = ended;
     let mut text = Vec::new(alloc);
     print_line(
         &mut text,
         &OutputLine::Run {
             outcome,
             count,
-            bound: checked.bound_hook(),
+            bound,
         },
     )?;
     Ok(text)
