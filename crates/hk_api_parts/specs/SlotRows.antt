@@ -6,6 +6,9 @@ use Rattle.xo_fields.specs.declared.amount.Amount.{Amount}
 use Rattle.xo_fields.specs.declared.amount.Amount.TheVariants.{Native, Issued}
 use Rattle.xo_fields.specs.declared.field.FieldId.{FieldId}
 use Rattle.xo_fields.specs.Field.{number}
+use Rattle.xfl.specs.declared.fault.XflFault.{XflFault}
+use Rattle.xfl.specs.Value.{Decimal, bits_of}
+use Rattle.xfl.specs.Operations.{rounded, whole}
 use Rattle.hk_reading.specs.Amounts.{amount_of}
 use Rattle.hk_calls.specs.declared.arguments.Pair.{Pair}
 use Rattle.hk_calls.specs.declared.code.Code.{Code}
@@ -107,3 +110,21 @@ slot_type slots n flags = do
   bytes ← slotted (bytes_at slots n)
   refuse (nat_lt 1 flags) code.InvalidArgument
   type_of kind bytes flags
+
+-- drops as an XFL: one is 10^-6
+abbrev pub float_of_drops : Result Decimal XflFault → OrCode ℤ
+float_of_drops (Ok x) = Ok (bits_of x)
+float_of_drops (Err fault) = Err code.XflOverflow
+
+-- an amount as an XFL
+abbrev pub float_of : Amount → OrCode ℤ
+float_of (Native drops) = float_of_drops (rounded (whole (pos drops) (negsuc 5)))
+float_of (Issued value currency issuer) = Ok value
+
+-- 53
+abbrev pub slot_float : SlotMap → ℕ → OrCode ℤ
+slot_float slots n = do
+  kind ← slotted (kind_at slots n)
+  bytes ← slotted (bytes_at slots n)
+  amount ← amount_in kind bytes
+  float_of amount

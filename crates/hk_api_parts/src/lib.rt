@@ -19,6 +19,6 @@ pub use setting::{
     otxn_generation, otxn_id, otxn_param, otxn_type,
 };
 pub use slot_rows::{
-    code_of, otxn_slot, put_object, slot, slot_clear, slot_count, slot_size, slot_subarray,
-    slot_subfield, slot_type,
+    code_of, otxn_slot, put_object, slot, slot_clear, slot_count, slot_float, slot_size,
+    slot_subarray, slot_subfield, slot_type,
 };

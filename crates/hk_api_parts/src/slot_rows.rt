@@ -12,6 +12,7 @@ use crate::setting::Setting;
 use hk_calls::{Code, Pair, Refusal, field, inside, refuse, write_or_number};
 use hk_slots::{SlotFault, Slots};
 use wa_num::Memory;
+use xfl::from_drops;
 use xo_fields::{Amount, AmountRead, FieldId, one_amount_read, read_amount};
 
 /// The kind of amounts.
@@ -182,4 +183,25 @@ pub fn slot_type(slots: &Slots, n: u32, flags: u32) -> Result<i64, Code>
     let bytes = bytes_in(slots, n)?;
     refuse(flags > 1, Code::InvalidArgument)?;
     type_of(kind, bytes, flags)
+}
+
+/// An amount as the bits of an XFL.
+fn float_of(amount: &Amount) -> i64
+    requires valid { IsValid amount.now }
+    ensures { rows.float_of amount.now ≡ Ok result }
+{
+    match amount {
+        Amount::Native(drops) => from_drops(*drops).bits(),
+        Amount::Issued { value, .. } => *value,
+    }
+}
+
+/// Row 53: the amount in a slot, as an XFL.
+pub fn slot_float(slots: &Slots, n: u32) -> Result<i64, Code>
+    ensures { result ≡ rows.slot_float slots.now n }
+{
+    let kind = kind_of(slots, n)?;
+    let bytes = bytes_in(slots, n)?;
+    let amount = amount_in(kind, bytes)?;
+    Ok(float_of(&amount))
 }

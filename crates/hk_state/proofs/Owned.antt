@@ -17,7 +17,7 @@ use Rattle.hk_state.specs.Reserves.{are_beside, is_own, own_units, units_in}
 use Rattle.hk_state.specs.Sums.{sum, total, sum-total}
 use Rattle.hk_state.proofs.Walks.{passing, run, own_in}
 
-inside : (first k : Key) → is_own first k ≡ true → is_from first k ≡ true
+pub inside : (first k : Key) → is_own first k ≡ true → is_from first k ≡ true
 inside first k h = front (is_from first k) (are_beside first k) h
   where
     front : (a b : Bool) → (a && b) ≡ true → a ≡ true
@@ -64,15 +64,15 @@ beside_later (State a i j) (Emitted n) (State b s t) le not lt = cc
 beside_later (State a i j) (Other bytes) (State b s t) le not lt = cc
 beside_later start k q le not lt = refl
 
-and_last : (a b : Bool) → b ≡ false → (a && b) ≡ false
+pub and_last : (a b : Bool) → b ≡ false → (a && b) ≡ false
 and_last true b h = h
 and_last false b h = refl
 
-but_last : (a b : Bool) → (a && b) ≡ false → a ≡ true → b ≡ false
+pub but_last : (a b : Bool) → (a && b) ≡ false → a ≡ true → b ≡ false
 but_last true b h is = h
 but_last false b h is = cc
 
-together : (start k q : Key) → is_from start k ≡ true → is_own start k ≡ false → key_cmp k q ≡ Less →
+pub together : (start k q : Key) → is_from start k ≡ true → is_own start k ≡ false → key_cmp k q ≡ Less →
     is_own start q ≡ false
 together start k q le not lt = and_last (is_from start q) (are_beside start q) (beside_later start k q le (but_last (is_from start k) (are_beside start k) not le) lt)
 

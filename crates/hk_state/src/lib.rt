@@ -23,5 +23,5 @@ pub use key::{Key, StateKey, as_key};
 pub use ledger::{Header, Ledger};
 pub use native::Native;
 pub use overlay::Overlay;
-pub use reserves::reserve;
+pub use reserves::{is_own, reserve};
 pub use transactor::{Done, Transactor};

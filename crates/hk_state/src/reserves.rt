@@ -46,8 +46,9 @@ fn owned_units(ledger: &Ledger, overlay: &Overlay, first: &Key) -> u64
     units
 }
 
-// Whether a key that isn't below a first key is of its account and kind.
-pub(crate) fn is_own(first: &Key, key: &Key) -> bool
+/// Whether a key that isn't below the first one of an account's Installs, or of its State entries, is of that account and
+/// kind.
+pub fn is_own(first: &Key, key: &Key) -> bool
     ensures own { result ≡ is_own first.now key.now }
 {
     if first.compare(key).is_gt() {
