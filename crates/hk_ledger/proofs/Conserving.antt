@@ -21,7 +21,7 @@ use Rattle.hk_state.specs.Ledger.{LedgerValue}
 use Rattle.hk_base.specs.Rows.{first_row}
 use Rattle.hk_state.specs.Rows.{none_applies}
 use Rattle.hk_state.specs.Rules.{Rules, KeepsSum}
-use Rattle.hk_ledger.specs.Transactions.{applied, goes_on, refusal_rows}
+use Rattle.hk_ledger.specs.Transactions.{applied, goes_on, refusal_rows, so_far}
 use Rattle.hk_ledger.specs.Machine.{State, start, goes, opening_total, unless_broken, account_rules, account_lines}
 use Rattle.hk_ledger.specs.Replays.{AddsUp, continued, replayed, opened_with}
 use Rattle.hk_state.proofs.Told.{is_none}
@@ -83,9 +83,9 @@ module _ (rules : Rules) (law : KeepsSum rules) where
       behind (printed.Ledger seq ∷ []) go.rest.from shown _ go.rest.to (adds_up lines _ go.rest.from go.rest.at)
   adds_up (Tx verdict blob ∷ lines) s shown h =
       let go = went _ _ _ shown (λ next. replayed rules next lines) h in
-      let done = applied rules s.ledger verdict (reading_of blob) in
+      let done = applied rules s.ledger verdict (so_far (reading_of blob)) in
       behind (printed.Tx (s.count + 1) done.result done.fee ∷ []) go.rest.from shown _ go.rest.to
-      (subst (λ n. AddsUp (n + opened_with lines) go.rest.from) (applied_sum rules s.ledger verdict (reading_of blob) law) (adds_up lines _ go.rest.from go.rest.at))
+      (subst (λ n. AddsUp (n + opened_with lines) go.rest.from) (applied_sum rules s.ledger verdict (so_far (reading_of blob)) law) (adds_up lines _ go.rest.from go.rest.at))
   adds_up (Hook code ∷ lines) s shown h = cc
   adds_up (End ∷ lines) s shown h = record {
     front = account_lines (entries s.ledger.entries);

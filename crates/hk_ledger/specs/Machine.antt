@@ -24,7 +24,7 @@ use Rattle.hk_state.specs.Balances.{balances}
 use Rattle.hk_state.specs.Ledger.{LedgerValue, new_ledger, coded_ledger, with_header}
 use Rattle.hk_base.specs.Rows.{first_row}
 use Rattle.hk_state.specs.Rules.{Rules}
-use Rattle.hk_ledger.specs.Transactions.{Applied, applied}
+use Rattle.hk_ledger.specs.Transactions.{Applied, applied, so_far}
 use Rattle.hk_ledger.specs.World.{most_drops, with_account}
 
 -- a ledger, and how many transactions came before
@@ -101,7 +101,7 @@ tx_step rules s verdict reading = unless_broken (first_row (tx_rules s.ledger)) 
 abbrev pub step : Rules → State → InputLine → Step
 step rules s (Account id balance sequence) = account_step s id balance sequence
 step rules s (Ledger seq time last_hash) = ledger_step s seq time last_hash
-step rules s (Tx verdict blob) = tx_step rules s verdict (reading blob)
+step rules s (Tx verdict blob) = tx_step rules s verdict (so_far (reading blob))
 step rules s (Hook code) = breaks BadWord
 step rules s End = ends (final_lines s.ledger)
 

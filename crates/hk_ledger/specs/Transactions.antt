@@ -1,5 +1,5 @@
 -- What a transaction does to the ledger: its results in their order, and what each of them keeps. This project's own.
-use Rattle.std.specs.Prelude.{◌≡◌, ℕ, ◌+◌, ◌-◌, Bool, true, false, nat_lt, List, [], ◌∷◌, Option, Some, None}
+use Rattle.std.specs.Prelude.{◌≡◌, ℕ, ◌+◌, ◌-◌, ◌==◌, if◌then◌else◌, Bool, true, false, nat_lt, List, [], ◌∷◌, Option, Some, None}
 use Rattle.xo_object.specs.declared.transaction.Transaction.{Transaction}
 use Rattle.hk_lines.specs.declared.verdict.Verdict.{Verdict}
 use Rattle.hk_lines.specs.declared.verdict.Verdict.TheVariants.{Good, Bad}
@@ -7,6 +7,7 @@ use Rattle.hk_lines.specs.declared.result_name.ResultName.{ResultName}
 use Rattle.hk_lines.specs.declared.result_name.ResultName.TheVariants.{TooLong, Unparsed, Malformed, BadSignature, NoAccount, PastSequence, FutureSequence, Early, Expired, FeeTooSmall, FeeUnfunded, Success}
 use Rattle.hk_reading.specs.declared.reading.Reading.{Reading}
 use Rattle.hk_reading.specs.declared.reading.Reading.TheVariants as reading
+use Rattle.hk_reading.specs.Readings.{hook_kind}
 use Rattle.hk_state.specs.declared.entry.Holding.{Holding}
 use Rattle.hk_state.specs.Entries.{Entries}
 use Rattle.hk_state.specs.Holdings.{holding_at, with_holding}
@@ -18,6 +19,11 @@ use Rattle.hk_state.specs.Rules.{Rules, Effect, keeps, fails, IsOfItsBytes}
 abbrev pub IsOfBytes : Reading → Type 0
 IsOfBytes (reading.Transaction t) = IsOfItsBytes t
 IsOfBytes other = Unit {0}
+
+-- a change of hooks isn't taken yet
+abbrev pub so_far : Reading → Reading
+so_far (reading.Transaction t) = if t.kind == hook_kind then reading.Malformed else reading.Transaction t
+so_far other = other
 
 abbrev pub is_bad : Verdict → Bool
 is_bad Good = false

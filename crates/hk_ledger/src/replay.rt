@@ -2,6 +2,7 @@
 ghost use Rattle.std.specs.Prelude.{◌≡◌, ◌+◌, ◌<◌, ◌≤◌, ◌^◌, IfOk, OnErr, OnOk};
 ghost use Rattle.hk_ledger.specs.Machine.{start, Steps, account_step, ledger_step, tx_step, step, final_lines, ends, IsInRange};
 ghost use Rattle.hk_reading.specs.Reading.{reading};
+ghost use Rattle.hk_ledger.specs.Transactions.{so_far};
 ghost use Rattle.hk_ledger.specs.World.{most_drops};
 
 use crate::{OpenFault, World, apply, open_account, open_ledger};
@@ -100,7 +101,7 @@ impl Replay {
         verdict: Verdict,
         blob: &[u8],
     ) -> Result<Stepped, NoMemory>
-        ensures ok { IfOk result (λ stepped. Steps (tx_step T.rules self.old verdict (reading blob.now)) self.new stepped) }
+        ensures ok { IfOk result (λ stepped. Steps (tx_step T.rules self.old verdict (so_far (reading blob.now))) self.new stepped) }
     {
         if self.count == u64::MAX {
             return Err(AllocError);

@@ -1,5 +1,5 @@
 //! Transactions: their results in order, and what each of them keeps.
-ghost use Rattle.std.specs.Prelude.{◌≡◌, ◌+◌, ◌<◌, ◌≤◌, length, IfOk, IsOk, OnErr, OnOk};
+ghost use Rattle.std.specs.Prelude.{◌≡◌, ◌+◌, ◌<◌, ◌≤◌, ℕ, List, length, IfOk, IsOk, OnErr, OnOk};
 ghost use Rattle.hk_ledger.specs.Conserved.{Taken};
 ghost use Rattle.hk_state.specs.Balances.{balances};
 ghost use Rattle.hk_ledger.specs.Reports.{Reports};
@@ -7,10 +7,10 @@ ghost use Rattle.hk_base.specs.declared.ids.AccountId.{AccountId};
 ghost use Rattle.hk_state.specs.Reserves.{reserve};
 ghost use Rattle.hk_state.specs.Rules.{IsOfItsBytes};
 ghost use Rattle.hk_base.specs.Rows.{first_row};
-ghost use Rattle.hk_ledger.specs.Transactions.{IsOfBytes, applied, refusal_rows, account_rows, is_before, is_after, paid, settled, Ends};
+ghost use Rattle.hk_ledger.specs.Transactions.{IsOfBytes, applied, refusal_rows, account_rows, is_before, is_after, paid, settled, so_far, Ends};
 ghost use Rattle.hk_state.specs.Writes.{with_writes};
 ghost use Rattle.hk_reading.specs.Reading.{reading};
-ghost use Rattle.hk_reading.specs.Readings.{IsCountable, longest};
+ghost use Rattle.hk_reading.specs.Readings.{IsCountable, Reads, longest};
 
 use crate::{Report, World};
 use hk_base::NoMemory;
@@ -22,6 +22,9 @@ use xo_object::Transaction;
 
 // The least fee, in drops.
 const NEEDED_FEE: u64 = 10;
+
+// The type that changes hooks.
+const SET_HOOK: u16 = 22;
 
 // Whether a ledger comes before the first one that takes a transaction.
 fn comes_early(seq: u32, first: Option<u32>) -> bool
@@ -156,6 +159,24 @@ fn apply_read<T: Transactor>(
     Ok(Report::of(alloc, name, transaction.fee))
 }
 
+// A change of hooks isn't taken yet.
+fn so_far(reading: Reading) -> Reading
+    ensures so_far { result ≡ so_far reading }
+    ensures countable { IsCountable reading → IsCountable result }
+    ensures bytes { (bytes : List ℕ) → Reads bytes reading → IsOfBytes result }
+{
+    match reading {
+        Reading::Transaction(transaction) => {
+            if transaction.kind == SET_HOOK {
+                Reading::Malformed
+            } else {
+                Reading::Transaction(transaction)
+            }
+        }
+        other => other,
+    }
+}
+
 // Applies what the bytes of a transaction read as.
 fn apply_reading<T: Transactor>(
     alloc: Global,
@@ -188,10 +209,10 @@ pub fn apply<T: Transactor>(
     verdict: Verdict,
     blob: &[u8],
 ) -> Result<Report, NoMemory>
-    ensures ok { IfOk result (λ report. Reports (applied T.rules world.old.ledger verdict (reading blob.now)) world.old world.new report) }
+    ensures ok { IfOk result (λ report. Reports (applied T.rules world.old.ledger verdict (so_far (reading blob.now))) world.old world.new report) }
     ensures err { OnErr result (world.new ≡ world.old) }
     ensures too_long { longest < length blob.now → IsOk result }
 {
-    let reading = read(alloc, blob)?;
+    let reading = so_far(read(alloc, blob)?);
     apply_reading(alloc, world, rules, verdict, &reading)
 }

@@ -1,12 +1,10 @@
 -- Bytes read as the function says, and as nothing else.
-use Rattle.std.proofs.Common.{◌≡◌, ◌≢◌, ℕ, ◌<◌, ◌≤◌, ◌==◌, ◌⊎◌, inl, inr, Bool, true, false, List, length, refl, sym, ap, subst, ◌∙◌, arith, Result, Ok, Err, IfOk, IfSome, Option, Some, None, if◌then◌else◌, nat_lt}
+use Rattle.std.proofs.Common.{◌≡◌, ℕ, ◌<◌, ◌≤◌, Bool, true, false, List, length, refl, sym, ap, subst, ◌∙◌, arith, Result, Ok, Err, IfOk, IfSome, Option, Some, None, if◌then◌else◌, nat_lt}
 use Rattle.std.proofs.lemmas.Bool.Decides.{nat_tests}
-use Rattle.xo_object.proofs.Values.{number_same}
 use Rattle.xo_fields.proofs.Cases.{pick, none_some}
 use Rattle.xo_object.specs.declared.transaction.Transaction.{Transaction}
 use Rattle.xo_list.specs.Item.{Item}
-use Rattle.xo_object.specs.Names.{transaction_type}
-use Rattle.xo_object.specs.Transaction.{IsTransaction, number16}
+use Rattle.xo_object.specs.Transaction.{IsTransaction}
 use Rattle.xo_list.specs.Value.{IsObject, HasFields}
 use Rattle.hk_reading.specs.declared.reading.Reading.{Reading}
 use Rattle.hk_reading.specs.declared.reading.Reading.TheVariants as readings
@@ -14,44 +12,29 @@ use Rattle.std.specs.declared.alloc.AllocError.{AllocError}
 use Rattle.hk_reading.specs.Laws.{ReadsSo, ReadsOnlySo, TransactionsFound}
 use Rattle.hk_reading.specs.Parsing.{fields_of}
 use Rattle.hk_reading.specs.Reading.{reading, of_fields, of_transaction}
-use Rattle.hk_reading.specs.Readings.{Reads, IsMalformed, longest, hook_kind}
+use Rattle.hk_reading.specs.Readings.{Reads, IsMalformed, longest}
 use Rattle.hk_reading.specs.Transactions.{transaction_of}
 use Rattle.hk_reading.proofs.FieldsFound.{fields_found}
-use Rattle.hk_reading.proofs.Finding.{nat_same}
 use Rattle.hk_reading.proofs.TransactionsFound.{transaction_found}
 
 pub transactions_found : TransactionsFound
 transactions_found emitted fields bytes t = ((transaction_found emitted fields bytes).sound t, (transaction_found emitted fields bytes).complete t)
 
 module _ (bytes : List ℕ) (fits : length bytes ≤ longest) where
-  -- an object's fields are malformed where no transaction is found, or one of the type that isn't taken
+  -- an object's fields are malformed where no transaction is found
   found_reads : (fields : List Item) → IsObject fields bytes → (found : Option Transaction) → transaction_of false fields bytes ≡ found → Reads bytes (of_transaction found)
-  found_reads fields object None e = (fits, record { fields = fields; object = object; wrong = inr (λ t is. none_some t (sym e ∙ (transaction_found false fields bytes).complete t is)) })
-  found_reads fields object (Some t) e = of_kind (t.kind == hook_kind) refl
-    where
-      is : IsTransaction fields bytes false t
-      is = (transaction_found false fields bytes).sound t e
-
-      of_kind : (b : Bool) → (t.kind == hook_kind) ≡ b → Reads bytes (if b then readings.Malformed else readings.Transaction t)
-      of_kind true same = (fits, record { fields = fields; object = object; wrong = inl (is.common.kind_is ∙ ap Some ((nat_same t.kind hook_kind).0 same)) })
-      of_kind false other = (fits, record { fields = fields; object = object; is = is; kind = λ same. let yes : (t.kind == hook_kind) ≡ true = (nat_same t.kind hook_kind).1 same in absurd cc })
+  found_reads fields object None e = (fits, record { fields = fields; object = object; wrong = λ t is. none_some t (sym e ∙ (transaction_found false fields bytes).complete t is) })
+  found_reads fields object (Some t) e = (fits, record { fields = fields; object = object; is = (transaction_found false fields bytes).sound t e })
 
   fields_read : (found : Option (List Item)) → fields_of bytes ≡ found → Reads bytes (of_fields bytes found)
   fields_read None e = (fits, λ (items, object). none_some items (sym e ∙ (fields_found bytes).complete items object))
   fields_read (Some fields) e = found_reads fields ((fields_found bytes).sound fields e) (transaction_of false fields bytes) refl
 
   -- what is read otherwise
-  malformed_only : (fields : List Item) → ((number16 transaction_type fields ≡ Some hook_kind) ⊎ ((t : Transaction) → IsTransaction fields bytes false t → ⊥)) → (found : Option Transaction) → transaction_of false fields bytes ≡ found →
+  malformed_only : (fields : List Item) → ((t : Transaction) → IsTransaction fields bytes false t → ⊥) → (found : Option Transaction) → transaction_of false fields bytes ≡ found →
       of_transaction found ≡ readings.Malformed
-  malformed_only fields wrong None e = refl
-  malformed_only fields (inr never) (Some t) e = absurd (never t ((transaction_found false fields bytes).sound t e))
-  malformed_only fields (inl kind) (Some t) e =
-      let is : IsTransaction fields bytes false t = (transaction_found false fields bytes).sound t e in
-      let same : t.kind ≡ hook_kind = number_same (number16 transaction_type fields) t.kind hook_kind is.common.kind_is kind in
-      ap (λ b. if b then readings.Malformed else readings.Transaction t) ((nat_same t.kind hook_kind).1 same)
-
-  taken_only : (t : Transaction) → t.kind ≢ hook_kind → of_transaction (Some t) ≡ readings.Transaction t
-  taken_only t other = ap (λ b. if b then readings.Malformed else readings.Transaction t) (let no : (t.kind == hook_kind) ≡ false = grind (arith, nat_tests) in no)
+  malformed_only fields never None e = refl
+  malformed_only fields never (Some t) e = absurd (never t ((transaction_found false fields bytes).sound t e))
 
   unparsed_only : (HasFields bytes → ⊥) → (found : Option (List Item)) → fields_of bytes ≡ found → found ≡ None
   unparsed_only never None e = refl
@@ -78,7 +61,7 @@ reads_only_so bytes readings.TooLong long = sym (reading_long bytes long)
 reads_only_so bytes readings.Unparsed (fits, never) = sym (reading_short bytes fits ∙ ap (of_fields bytes) (unparsed_only bytes fits never (fields_of bytes) refl))
 reads_only_so bytes readings.Malformed (fits, h) = sym (reading_short bytes fits ∙ of_fields_again bytes fits h.fields h.object ∙ malformed_only bytes fits h.fields h.wrong (transaction_of false h.fields bytes) refl)
 reads_only_so bytes (readings.Transaction t) (fits, h) =
-    sym (reading_short bytes fits ∙ of_fields_again bytes fits h.fields h.object ∙ ap of_transaction ((transaction_found false h.fields bytes).complete t h.is) ∙ taken_only bytes fits t h.kind)
+    sym (reading_short bytes fits ∙ of_fields_again bytes fits h.fields h.object ∙ ap of_transaction ((transaction_found false h.fields bytes).complete t h.is))
 
 -- what is read by the relation is what the function says
 pub read_so : (bytes : List ℕ) (result : Result Reading AllocError) → IfOk result (λ r. Reads bytes r) → IfOk result (λ r. r ≡ reading bytes)
@@ -87,7 +70,7 @@ read_so bytes (Err fault) h = tt
 
 -- a refused transaction
 pub refused : (bytes other : List ℕ) (fields : List Item) → length bytes ≤ longest → IsObject fields bytes → other ≡ bytes → ((t : Transaction) → IsTransaction fields other false t → ⊥) → IsMalformed bytes
-refused bytes other fields fits object same never = record { fields = fields; object = object; wrong = inr (λ t is. never t (subst (λ b. IsTransaction fields b false t) (sym same) is)) }
+refused bytes other fields fits object same never = record { fields = fields; object = object; wrong = λ t is. never t (subst (λ b. IsTransaction fields b false t) (sym same) is) }
 
 pub at_some : {A : Type 0} (P : A → Type 0) (found : Option A) (x : A) → found ≡ Some x → IfSome found P → P x
 at_some P found x e h = subst (λ o. IfSome o P) e h

@@ -1,9 +1,8 @@
--- What the bytes of a transaction read as (this project's own limit, and its own list of the types that are taken).
-use Rattle.std.specs.Prelude.{◌≡◌, ◌≢◌, ℕ, ◌<◌, ◌≤◌, ◌⊎◌, false, List, length, Some}
+-- What the bytes of a transaction read as (this project's own limit).
+use Rattle.std.specs.Prelude.{ℕ, ◌<◌, ◌≤◌, false, List, length}
 use Rattle.xo_object.specs.declared.transaction.Transaction.{Transaction}
 use Rattle.xo_list.specs.Item.{Item}
-use Rattle.xo_object.specs.Names.{transaction_type}
-use Rattle.xo_object.specs.Transaction.{IsTransaction, number16}
+use Rattle.xo_object.specs.Transaction.{IsTransaction}
 use Rattle.xo_list.specs.Value.{IsObject, HasFields}
 use Rattle.hk_reading.specs.declared.reading.Reading.{Reading}
 use Rattle.hk_reading.specs.declared.reading.Reading.TheVariants as reading
@@ -16,18 +15,17 @@ longest = 1000000
 abbrev pub hook_kind : ℕ
 hook_kind = 22
 
--- an object's fields are of the type that isn't taken, or no transaction
+-- an object's fields are no transaction
 pub record IsMalformed (bytes : List ℕ) : Type 0 where
   pub fields : List Item
   pub object : IsObject fields bytes
-  pub wrong : (number16 transaction_type fields ≡ Some hook_kind) ⊎ ((t : Transaction) → IsTransaction fields bytes false t → ⊥)
+  pub wrong : (t : Transaction) → IsTransaction fields bytes false t → ⊥
 
--- an object's fields are this transaction, of a type that is taken
+-- an object's fields are this transaction
 pub record IsRead (bytes : List ℕ) (t : Transaction) : Type 0 where
   pub fields : List Item
   pub object : IsObject fields bytes
   pub is : IsTransaction fields bytes false t
-  pub kind : t.kind ≢ hook_kind
 
 abbrev pub Reads : List ℕ → Reading → Type 0
 Reads bytes reading.TooLong = longest < length bytes

@@ -14,9 +14,6 @@ use xo_object::{
 /// The most bytes of a transaction.
 const LONGEST: usize = 1_000_000;
 
-/// The type that changes hooks.
-const SET_HOOK: u16 = 22;
-
 /// What the bytes of a transaction read as.
 #[derive(Debug, Drop)]
 pub enum Reading {
@@ -24,7 +21,7 @@ pub enum Reading {
     TooLong,
     /// They are no object.
     Unparsed,
-    /// They are an object, and no transaction, or one of a type that isn't taken.
+    /// They are an object, and no transaction.
     Malformed,
     Transaction(Transaction),
 }
@@ -55,12 +52,7 @@ fn read_by_relation(alloc: Global, bytes: &[u8]) -> Result<Reading, NoMemory>
     match read_transaction(alloc, &object, false) {
         Err(TransactionFault::NoMemory) => Err(AllocError),
         Err(TransactionFault::Malformed) => Ok(Reading::Malformed),
-        Ok(transaction) => {
-            if transaction.kind == SET_HOOK {
-                return Ok(Reading::Malformed);
-            }
-            Ok(Reading::Transaction(transaction))
-        }
+        Ok(transaction) => Ok(Reading::Transaction(transaction)),
     }
 }
 

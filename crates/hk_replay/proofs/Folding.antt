@@ -30,7 +30,7 @@ use Rattle.hk_state.specs.Native.{native}
 use Rattle.hk_base.specs.Rows.{first_row}
 use Rattle.hk_state.specs.Rows.{none_applies}
 use Rattle.hk_state.specs.Rules.{keeps, fails}
-use Rattle.hk_ledger.specs.Transactions.{applied, goes_on, settled, refusal_rows, paid}
+use Rattle.hk_ledger.specs.Transactions.{applied, goes_on, settled, so_far, refusal_rows, paid}
 use Rattle.hk_ledger.specs.World.{most_drops, with_account}
 use Rattle.hk_state.proofs.Told.{is_none}
 use Rattle.hk_replay.specs.ReplayLines.{Order, no_lines, is_among, account_faults, ledger_faults, tx_faults}
@@ -179,7 +179,7 @@ ordered_same order s (Ledger seq time last_hash) a =
 ordered_same order s (Tx verdict blob) a =
     same_unless (first_row (tx_faults order)) (first_row (tx_rules s.ledger)) s order (Tx verdict blob) _ _
     (ap (λ n. first_row ((not (nat_lt 0 n), BadOrder) ∷ [])) a.seq) refl
-    (tx_agrees order s verdict (reading blob) (s.count + 1) a)
+    (tx_agrees order s verdict (so_far (reading blob)) (s.count + 1) a)
 ordered_same order s (Hook code) a = refl
 ordered_same order s End a = (refl, refl)
 

@@ -17,7 +17,7 @@ use Rattle.hk_lines.specs.declared.status.Status.TheVariants.{Done}
 use Rattle.hk_ledger.specs.Machine.{State, start, final_lines}
 use Rattle.hk_state.specs.Native.{native}
 use Rattle.hk_base.specs.Rows.{first_row}
-use Rattle.hk_ledger.specs.Transactions.{Applied, applied}
+use Rattle.hk_ledger.specs.Transactions.{Applied, applied, so_far}
 use Rattle.hk_ledger.specs.World.{most_drops, with_account}
 use Rattle.hk_state.specs.Ledger.{with_header}
 use Rattle.hk_replay.specs.Replaying.{texts, replay_turn}
@@ -93,7 +93,7 @@ right_step s (Ledger seq time last_hash) = (
   record s { ledger = with_header s.ledger (record { seq = seq; time = time; last_hash = last_hash }) },
   shown.Ledger seq ∷ [],
 )
-right_step s (Tx verdict blob) = after_event s (applied native s.ledger verdict (reading blob))
+right_step s (Tx verdict blob) = after_event s (applied native s.ledger verdict (so_far (reading blob)))
 right_step s other = (s, [])
 
 -- at the end, accounts and totals are printed
