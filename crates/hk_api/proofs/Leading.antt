@@ -1,6 +1,7 @@
 -- All calls keep what the host's state must keep.
-use Rattle.std.proofs.Common.{◌≡◌, ℕ, ℤ, pos, ◌⊎◌, inl, inr, Bool, true, false, List, length, refl, sym, ap, subst, ◌∙◌, Ok, Err, Option, Some, None, ok_or, ◌+◌, ◌-◌, ◌*◌, ◌^◌, ◌==◌, ◌&&◌, not, nat_lt, nat_le, arith, if◌then◌else◌}
+use Rattle.std.proofs.Common.{◌≡◌, ℕ, ℤ, pos, ◌⊎◌, inl, inr, Bool, true, false, List, length, refl, sym, ap, subst, ◌∙◌, Ok, Err, Option, Some, None, ok_or, ◌+◌, ◌-◌, ◌*◌, ◌^◌, ◌<◌, ◌==◌, ◌&&◌, not, nat_lt, nat_le, arith, if◌then◌else◌}
 use Rattle.std.specs.FinMap.{get}
+use Rattle.std.proofs.lemmas.Bool.{ltb-true}
 use Rattle.hk_calls.specs.Arguments.{pair_of}
 use Rattle.hk_calls.specs.declared.arguments.Pair.{Pair}
 use Rattle.hk_calls.specs.declared.code.Code.TheVariants as code
@@ -150,6 +151,17 @@ taken : (o : Option Emission) (refusal : Code) (e : Emission) → ok_or o refusa
 taken (Some x) refusal e is = let same : x ≡ e = cc in ap (λ y. Some y) same
 taken None refusal e is = cc
 
+-- the burden of emissions is a number of 63 bits
+small_if : (n : ℕ) (b : Bool) → nat_lt n (2 ^ 63) ≡ b → (refusal : Code) →
+    Gives (λ m. m < 2 ^ 63) (ok_or (if b then Some n else None) refusal)
+small_if n true e refusal = ltb-true n (2 ^ 63) e
+small_if n false e refusal = tt
+
+small_burden : (h : HostState) → Gives (λ m. m < 2 ^ 63) (own_burden h.setting h.emitting)
+small_burden h =
+    gives_refuse (λ m. m < 2 ^ 63) (h.emitting.reserved == 0) code.PrerequisiteNotMet _ (λ _.
+    small_if (h.setting.transaction.burden * h.emitting.reserved) _ refl code.FeeTooLarge)
+
 emit_waits : OneHeader → (h : HostState) (m : List ℕ) (write from : Pair) → Gives (Waits h) (emit h m write from)
 emit_waits one h m write from =
     gives_after (Waits h) (inside m write) _ (
@@ -157,11 +169,12 @@ emit_waits one h m write from =
     gives_refuse (Waits h) (nat_lt write.count 32) code.TooSmall _ (λ _.
     gives_refuse (Waits h) (h.emitting.reserved == 0) code.PrerequisiteNotMet _ (λ _.
     gives_refuse (Waits h) (nat_le h.emitting.reserved h.emitting.emitted) code.TooManyEmittedTxn _ (λ _.
-    gives_then (Waits h) (own_burden h.setting h.emitting) _ (λ b _.
+    gives_then (Waits h) (own_burden h.setting h.emitting) _ (λ b given.
     gives_then (Waits h) (ok_or (accepted blob (context_of h.setting h.place b) h.emitting.unused) code.EmissionFailure) _ (λ e is.
     gives_refuse (Waits h) (nat_lt e.transaction.fee (needed_fee h.before e.transaction * b)) code.EmissionFailure _ (λ _.
     gives_refuse (Waits h) (nat_le (2 ^ 63 - 1) (h.next + length h.draft.emissions)) code.EmissionFailure (Ok (writes e.transaction.id.0, e)) (λ _.
-    accepted_waits one blob (context_of h.setting h.place b) h.emitting.unused e (omega arith) (omega arith) (taken _ code.EmissionFailure e is))))))))))
+    accepted_waits one blob (context_of h.setting h.place b) h.emitting.unused e (omega arith) (omega arith)
+    (subst (Gives (λ m. m < 2 ^ 63)) given (small_burden h)) (taken _ code.EmissionFailure e is))))))))))
 
 emission_leads : OneHeader → (h : HostState) (a m : List ℕ) (output : Output) (e : Emission) →
     emit h m (pair_of a 0) (pair_of a 2) ≡ Ok (output, e) → Leads h (with_emission h e)

@@ -24,7 +24,7 @@ reads_so blob fields t short found is =
     ∙ ap (of_emitted_fields blob) found ∙ ap of_transaction is
 
 pub accepted_waits : OneHeader → AcceptedEmits
-accepted_waits one blob context nonces e some small h =
+accepted_waits one blob context nonces e some small light h =
     let r : IsEmission blob context nonces e = accepted_emission one blob context nonces e h in
     let found : transaction_of true r.fields blob ≡ Some e.transaction = (transaction_found true r.fields blob).complete e.transaction r.is in
     record {
@@ -34,6 +34,7 @@ accepted_waits one blob context nonces e some small h =
         other = r.other;
         emitted = omega (arith, r.generation small, some);
         generation = r.few;
+        burden = let same = r.burden (omega (arith, light)) in omega (arith, same, light);
         order = r.order;
       };
       later = r.later;

@@ -1,6 +1,6 @@
 -- How a draft may go on. This project's own. Grounds say who may write a State key; `reads` is the reader of emitted
 -- bytes, and `seq` the open ledger's sequence number.
-use Rattle.std.specs.Prelude.{◌≡◌, ◌≢◌, ℕ, ◌<◌, ◌≤◌, ◌⊎◌, Bool, true, false, List, ◌++◌, Option, Some, None}
+use Rattle.std.specs.Prelude.{◌≡◌, ◌≢◌, ℕ, ◌<◌, ◌≤◌, ◌^◌, ◌⊎◌, Bool, true, false, List, ◌++◌, Option, Some, None}
 use Rattle.std.specs.FinMap.{get}
 use Rattle.xo_object.specs.declared.transaction.Transaction.{Transaction}
 use Rattle.hk_reading.specs.declared.reading.Reading.{Reading}
@@ -19,13 +19,14 @@ use Rattle.hk_draft.specs.Lists.{Each}
 use Rattle.hk_draft.specs.Draft.{Draft, is_listed}
 
 -- bytes that may wait in the queue for these ledgers: they read as an emitted transaction that changes no hooks, and
--- one to ten emissions lead to it
+-- one to ten emissions lead to it, and its burden is a number of 63 bits
 pub record IsEmission (reads : List ℕ → Reading) (blob : List ℕ) (first last : ℕ) : Type 0 where
   pub transaction : Transaction
   pub reads_so : reads blob ≡ readings.Transaction transaction
   pub other : transaction.kind ≢ hook_kind
   pub emitted : 1 ≤ transaction.generation
   pub generation : transaction.generation ≤ 10
+  pub burden : transaction.burden < 2 ^ 63
   pub order : first ≤ last
 
 -- an emission for ledgers after the open one
