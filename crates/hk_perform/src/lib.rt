@@ -1,0 +1,10 @@
+//! A transaction on a ledger with hooks: its results in order, the chains of both sides, and what it does itself.
+#![tactic(auto)]
+
+mod origin;
+mod performed;
+mod transaction;
+
+pub use origin::Origin;
+pub use performed::Performed;
+pub use transaction::perform;
