@@ -4,4 +4,4 @@
 
 mod laws;
 
-pub use laws::{engines_careful, engines_lawful, engines_measured, stores_bounds};
+pub use laws::{calls_keep, engines_careful, engines_lawful, engines_measured, stores_bounds};

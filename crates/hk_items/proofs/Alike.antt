@@ -36,79 +36,96 @@ module _ (m : Entries) (es : List Emission) where
   onward (leaves d) later w means = ap later means
   onward (stops name) later w means = absurd means
 
-  pub kept_grows : (id : AccountId) (more : ℕ) (d : Draft) (end : ItemEnd) (w : Writes) → Means m es (Kept w) end → Grows id more d end →
+  pub kept_grows : (id : AccountId) (more : ℕ) (d : Draft) (end : ItemEnd) (w : Writes) → Means m es (Kept w) end →
+      Grows id more d end →
       reserve (with_writes m w) id ≤ reserve d.entries id + more
   kept_grows id more d (leaves after) w means grows =
-      let same : with_writes m w ≡ after.entries = λ i. (means i).entries in subst (λ n. reserve n id ≤ reserve d.entries id + more) (sym same) grows
+      let same : with_writes m w ≡ after.entries = λ i. (means i).entries in
+      subst (λ n. reserve n id ≤ reserve d.entries id + more) (sym same) grows
   kept_grows id more d (stops name) w means grows = absurd means
 
   module _ (owner : AccountId) where
-    pub before_reserve : (end : ItemEnd) (name : ResultName) → Means m es (Failed name) end → Means m es (Failed name) (reserved plain owner end)
+    pub before_reserve : (end : ItemEnd) (name : ResultName) → Means m es (Failed name) end →
+        Means m es (Failed name) (reserved plain owner end)
     before_reserve (leaves d) name means = absurd means
     before_reserve (stops other) name means = means
 
     pub short : (end : ItemEnd) (w : Writes) → true ≡ is_short plain owner (with_writes m w) → Means m es (Kept w) end →
         Means m es (Failed Reserve) (reserved plain owner end)
     short (leaves d) w is means =
-        subst (λ b. Means m es (Failed Reserve) (if b then stops Reserve else leaves d)) (is ∙ (λ i. is_short plain owner (means i).entries)) refl
+        subst (λ b. Means m es (Failed Reserve) (if b then stops Reserve else leaves d)) (is
+        ∙ (λ i. is_short plain owner (means i).entries)) refl
     short (stops other) w is means = absurd means
 
-    pub covered : (end : ItemEnd) (w : Writes) → false ≡ is_short plain owner (with_writes m w) → Means m es (Kept w) end →
+    pub covered : (end : ItemEnd) (w : Writes) → false ≡ is_short plain owner (with_writes m w) →
+        Means m es (Kept w) end →
         Means m es (Kept w) (reserved plain owner end)
     covered (leaves d) w is means =
-        subst (λ b. Means m es (Kept w) (if b then stops Reserve else leaves d)) (is ∙ (λ i. is_short plain owner (means i).entries)) means
+        subst (λ b. Means m es (Kept w) (if b then stops Reserve else leaves d)) (is
+        ∙ (λ i. is_short plain owner (means i).entries)) means
     covered (stops other) w is means = absurd means
 
   -- the items that are left, when one of them was kept, and when one failed
-  module _ (owner : AccountId) (position : ℕ) (items : List HookItem) (index : ℕ) (x : HookItem) (is : drop index items ≡ x ∷ drop (index + 1) items) (w : Writes) (start : ItemEnd) (left : items_end plain owner position (drop index items) (draft_of m w es) ≡ start) where
+  module _ (owner : AccountId) (position : ℕ) (items : List HookItem) (index : ℕ) (x : HookItem)
+      (is : drop index items ≡ x ∷ drop (index + 1) items) (w : Writes) (start : ItemEnd)
+      (left : items_end plain owner position (drop index items) (draft_of m w es) ≡ start) where
     pub next_item : (after : Writes) → Means m es (Kept after) (item_end plain owner position x (draft_of m w es)) →
         items_end plain owner (position + 1) (drop (index + 1) items) (draft_of m after es) ≡ start
     next_item after means =
-        onward (item_end plain owner position x (draft_of m w es)) (items_end plain owner (position + 1) (drop (index + 1) items)) after means
+        onward (item_end plain owner position x (draft_of m w es))
+        (items_end plain owner (position + 1) (drop (index + 1) items)) after means
         ∙ sym (ap (λ xs. items_end plain owner position xs (draft_of m w es)) is) ∙ left
 
-    pub failed_item : (name : ResultName) → Means m es (Failed name) (item_end plain owner position x (draft_of m w es)) → Means m es (Failed name) start
+    pub failed_item : (name : ResultName) →
+        Means m es (Failed name) (item_end plain owner position x (draft_of m w es)) → Means m es (Failed name) start
     failed_item name means =
-        subst (Means m es (Failed name)) (sym (ap (λ xs. items_end plain owner position xs (draft_of m w es)) is) ∙ left)
-        (stopped (item_end plain owner position x (draft_of m w es)) (items_end plain owner (position + 1) (drop (index + 1) items)) name means)
+        subst (Means m es (Failed name)) (sym (ap (λ xs. items_end plain owner position xs (draft_of m w es)) is)
+        ∙ left)
+        (stopped (item_end plain owner position x (draft_of m w es))
+        (items_end plain owner (position + 1) (drop (index + 1) items)) name means)
 
-  pub no_more : (owner : AccountId) (position : ℕ) (items : List HookItem) → items ≡ [] → (w : Writes) (start : ItemEnd) →
+  pub no_more : (owner : AccountId) (position : ℕ) (items : List HookItem) → items ≡ [] →
+      (w : Writes) (start : ItemEnd) →
       items_end plain owner position items (draft_of m w es) ≡ start → Means m es (Kept w) start
   no_more owner position items none w start left =
-      subst (Means m es (Kept w)) (ap (λ xs. items_end plain owner position xs (draft_of m w es)) (sym none) ∙ left) refl
+      subst (Means m es (Kept w)) (ap (λ xs. items_end plain owner position xs (draft_of m w es)) (sym none)
+      ∙ left) refl
 
 -- one of a list that all are right
-pub each_at : {X : Type 0} (P : X → Type 0) (xs : List X) (i : ℕ) (x : X) → i < length xs → x ≡ get_or xs i x → Each P xs → P x
+pub each_at : {X : Type 0} (P : X → Type 0) (xs : List X) (i : ℕ) (x : X) → i < length xs → x ≡ get_or xs i x →
+    Each P xs → P x
 each_at P [] i x h is each = absurd (omega (arith, h))
 each_at P (y ∷ xs) zero x h is each = subst P (sym is) each.0
 each_at P (y ∷ xs) (suc i) x h is each = each_at P xs i x (omega (arith, h)) is each.1
 
-pub at_item : (items : List HookItem) (i : ℕ) (x : HookItem) → i < length items → x ≡ get_or items i x → drop i items ≡ x ∷ drop (i + 1) items
+pub at_item : (items : List HookItem) (i : ℕ) (x : HookItem) → i < length items → x ≡ get_or items i x →
+    drop i items ≡ x ∷ drop (i + 1) items
 at_item items i x h is = drop_more items i x h ∙ ap (λ y. y ∷ drop (i + 1) items) (sym is)
 
-pub drop_end : (items : List HookItem) (i : ℕ) → length items ≤ i → drop i items ≡ []
-drop_end [] zero h = refl
-drop_end [] (suc i) h = refl
-drop_end (x ∷ items) zero h = absurd (omega (arith, h))
-drop_end (x ∷ items) (suc i) h = drop_end items i (omega (arith, h))
-
 module _ (e : Engine) (checks : e.checks ≡ checked_in) (reserves : e.reserve ≡ reserve) (owner : AccountId) where
-  item_alike : (position : ℕ) (i : HookItem) (d : Draft) → item_end e owner position i d ≡ item_end plain owner position i d
+  item_alike : (position : ℕ) (i : HookItem) (d : Draft) →
+      item_end e owner position i d ≡ item_end plain owner position i d
   item_alike position item.Noop d = refl
   item_alike position (item.DeleteNamespace namespace) d = refl
   item_alike position item.Delete d = refl
   item_alike position (item.Create code version on namespace parameters grants replace) d =
-      ap (λ check. if is_occupied owner position replace d then stops Occupied else created owner position version code (λ hash. entry.Install hash on namespace parameters grants) d (check version code)) checks
+      ap (λ check. if is_occupied owner position replace d then stops Occupied else created owner position version
+      code (λ hash. entry.Install hash on namespace parameters grants) d (check version code)) checks
   item_alike position (item.Install hash on namespace parameters grants replace) d = refl
   item_alike position (item.Update on namespace parameters grants) d = refl
 
-  items_alike : (position : ℕ) (items : List HookItem) (d : Draft) → items_end e owner position items d ≡ items_end plain owner position items d
+  items_alike : (position : ℕ) (items : List HookItem) (d : Draft) →
+      items_end e owner position items d ≡ items_end plain owner position items d
   items_alike position [] d = refl
-  items_alike position (i ∷ is) d = λ j. then_items (item_alike position i d j) (λ after. items_alike (position + 1) is after j)
+  items_alike position (i ∷ is) d =
+      λ j. then_items (item_alike position i d j) (λ after. items_alike (position + 1) is after j)
 
   reserved_alike : (end : ItemEnd) → reserved e owner end ≡ reserved plain owner end
-  reserved_alike (leaves d) = ap (λ keep. if nat_lt (balance_of (holding_at d.entries owner)) (keep d.entries owner) then stops Reserve else leaves d) reserves
+  reserved_alike (leaves d) =
+      ap (λ keep. if nat_lt (balance_of (holding_at d.entries owner))
+      (keep d.entries owner) then stops Reserve else leaves d) reserves
   reserved_alike (stops name) = refl
 
   pub hooks_alike : (items : List HookItem) (d : Draft) → hooks_end plain owner items d ≡ hooks_end e owner items d
-  hooks_alike items d = sym (reserved_alike (items_end e owner 0 items d) ∙ ap (reserved plain owner) (items_alike 0 items d))
+  hooks_alike items d =
+      sym (reserved_alike (items_end e owner 0 items d) ∙ ap (reserved plain owner) (items_alike 0 items d))

@@ -18,11 +18,13 @@ pub held : (version : ℕ) (code : List ℕ) (h : Held) → Holds version code h
 unfolding checked_in
 held version code h holds =
     sym (ap (λ m. and_then m (bounded version code)) ((accepted_is_hook version code h.wasm).1 holds.hook)
-    ∙ ap (option_map (λ bound. checked (hash_of version code) bound (export_bound version is_cbak h.wasm))) holds.bound_hook
+    ∙ ap (option_map (λ bound. checked (hash_of version code) bound (export_bound version is_cbak h.wasm)))
+    holds.bound_hook
     ∙ (λ i. Some (checked (sym holds.hash i) h.bound_hook (holds.bound_cbak i))))
 
 -- of a code that is refused for a cause of its own
-pub refused : (version : ℕ) (code : List ℕ) (found : CheckFault) → found ≢ fault.NoMemory → IsRefused version code found → None ≡ checked_in version code
+pub refused : (version : ℕ) (code : List ℕ) (found : CheckFault) → found ≢ fault.NoMemory →
+    IsRefused version code found → None ≡ checked_in version code
 unfolding checked_in
 refused version code found apart is =
     elim (accepted version code) as (λ m. accepted version code ≡ m → None ≡ and_then m (bounded version code)) [

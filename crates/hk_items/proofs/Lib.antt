@@ -6,3 +6,4 @@ pub mod Walked
 pub mod Grown
 pub mod Alike
 pub mod Right
+pub mod Codes

@@ -17,12 +17,15 @@ abbrev pub put_or_stop : AccountId → ℕ → Draft → Option Entry → ItemEn
 put_or_stop owner position d None = stops NoInstall
 put_or_stop owner position d (Some e) = leaves (put_entry (key.Install owner position) e d)
 
-pub by_change : (owner : AccountId) (position : ℕ) (on namespace : Option Hash256) (parameters : Option (List Parameter)) (grants : Option (List Grant)) (d : Draft) (found : Option Entry) →
-    updated owner position on namespace parameters grants d found ≡ put_or_stop owner position d (changed on namespace parameters grants found)
+pub by_change : (owner : AccountId) (position : ℕ) (on namespace : Option Hash256)
+    (parameters : Option (List Parameter)) (grants : Option (List Grant)) (d : Draft) (found : Option Entry) →
+    updated owner position on namespace parameters grants d found ≡ put_or_stop owner position d
+    (changed on namespace parameters grants found)
 by_change owner position on namespace parameters grants d None = refl
 by_change owner position on namespace parameters grants d (Some (entry.Account balance sequence)) = refl
 by_change owner position on namespace parameters grants d (Some (entry.Install hash o n p g)) = refl
-by_change owner position on namespace parameters grants d (Some (entry.Definition code version bound_hook bound_cbak)) = refl
+by_change owner position on namespace parameters grants d
+    (Some (entry.Definition code version bound_hook bound_cbak)) = refl
 by_change owner position on namespace parameters grants d (Some (entry.State bytes)) = refl
 by_change owner position on namespace parameters grants d (Some (entry.Emitted blob hash first last callback)) = refl
 by_change owner position on namespace parameters grants d (Some (entry.Other bytes)) = refl

@@ -16,7 +16,8 @@ checked hash bound_hook bound_cbak = record { hash = hash; bound_hook = bound_ho
 -- the hash of a code, and the bounds of `hook` and `cbak` in its module
 abbrev pub bounded : ℕ → List ℕ → Module → Option Checked
 bounded version code m =
-    option_map (λ bound. checked (hash_of version code) bound (export_bound version is_cbak m)) (export_bound version is_hook m)
+    option_map (λ bound. checked (hash_of version code) bound (export_bound version is_cbak m))
+    (export_bound version is_hook m)
 
 -- those of a code that is accepted in a version
 unfoldable pub checked_in : ℕ → List ℕ → Option Checked

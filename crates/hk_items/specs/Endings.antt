@@ -49,7 +49,9 @@ plain = record {
 }
 
 -- a hook with what is given in place of what it has, and none of another entry
-abbrev pub changed : Option Hash256 → Option Hash256 → Option (List Parameter) → Option (List Grant) → Option Entry → Option Entry
+abbrev pub changed : Option Hash256 → Option Hash256 → Option (List Parameter) → Option (List Grant) → Option Entry →
+    Option Entry
 changed on namespace parameters grants (Some (entry.Install hash was_on was_namespace was_parameters was_grants)) =
-    Some (entry.Install hash (unwrap_or on was_on) (unwrap_or namespace was_namespace) (unwrap_or parameters was_parameters) (unwrap_or grants was_grants))
+    Some (entry.Install hash (unwrap_or on was_on) (unwrap_or namespace was_namespace)
+    (unwrap_or parameters was_parameters) (unwrap_or grants was_grants))
 changed on namespace parameters grants other = None

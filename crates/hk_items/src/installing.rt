@@ -27,7 +27,8 @@ pub struct Terms<'a> {
 
 /// The hook of a hash, with copies of what the item lends.
 pub fn install_of(hash: Hash256, terms: Terms) -> Result<Entry, NoMemory>
-    ensures install { IfOk result (λ install. install ≡ entry.Install hash terms.entry.on terms.entry.namespace terms.entry.parameters.now terms.entry.grants.now) }
+    ensures install { IfOk result (λ install. install ≡ entry.Install hash terms.entry.on terms.entry.namespace
+        terms.entry.parameters.now terms.entry.grants.now) }
 {
     let parameters = copy_parameters(terms.parameters.allocator(), terms.parameters.as_slice())?;
     let grants = terms.grants.copy()?;
@@ -42,7 +43,8 @@ pub fn install_of(hash: Hash256, terms: Terms) -> Result<Entry, NoMemory>
 
 /// Whether a hook is there that may not be replaced.
 pub fn is_occupied(ledger: &Ledger, overlay: &Overlay, place: Place, replace: bool) -> bool
-    ensures occupied { result ≡ (is_some (map.get (with_writes ledger.now.entries overlay.now) (key.Install place.owner place.position)) && not replace) }
+    ensures occupied { result ≡ (is_some (map.get (with_writes ledger.now.entries overlay.now)
+        (key.Install place.owner place.position)) && not replace) }
 {
     has(ledger, overlay, &place.key()) && !replace
 }
@@ -55,7 +57,9 @@ pub fn install(
     hash: Hash256,
     terms: Terms,
 ) -> Result<Done, NoMemory>
-    ensures end { IfOk result (λ done. Performs ledger.now.entries overlay done (item_end plain place.owner place.position (item.Install hash terms.entry.on terms.entry.namespace terms.entry.parameters.now terms.entry.grants.now terms.entry.replace))) }
+    ensures end { IfOk result (λ done. Performs ledger.now.entries overlay done
+        (item_end plain place.owner place.position (item.Install hash terms.entry.on terms.entry.namespace
+        terms.entry.parameters.now terms.entry.grants.now terms.entry.replace))) }
 {
     if is_occupied(ledger, &overlay, place, terms.replace) {
         return Ok(Done::Failed(ResultName::Occupied));
@@ -78,7 +82,8 @@ pub fn update(
     parameters: &Option<Items<Parameter>>,
     grants: &Option<Items<Grant>>,
 ) -> Result<Done, NoMemory>
-    ensures end { IfOk result (λ done. Performs ledger.now.entries overlay done (item_end plain place.owner place.position (item.Update on namespace parameters.now grants.now))) }
+    ensures end { IfOk result (λ done. Performs ledger.now.entries overlay done
+        (item_end plain place.owner place.position (item.Update on namespace parameters.now grants.now))) }
 {
     let was = overlay.get(ledger, &place.key());
     match changed(was, on, namespace, parameters, grants)? {
@@ -98,7 +103,8 @@ fn changed(
     parameters: &Option<Items<Parameter>>,
     grants: &Option<Items<Grant>>,
 ) -> Result<Option<Entry>, NoMemory>
-    ensures changed { IfOk result (λ install. install ≡ changed on namespace parameters.now grants.now (option_copied was.entry)) }
+    ensures changed { IfOk result (λ install. install ≡ changed on namespace parameters.now grants.now
+        (option_copied was.entry)) }
 {
     match was {
         Some(

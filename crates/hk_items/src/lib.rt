@@ -8,5 +8,5 @@ mod namespaces;
 mod performing;
 mod place;
 
-pub use laws::transactions_are_right;
+pub use laws::{codes_fit, transactions_are_right};
 pub use performing::set_hooks;

@@ -16,7 +16,8 @@ pub fn empty(
     owner: &AccountId,
     namespace: &Hash256,
 ) -> Result<Overlay, NoMemory>
-    ensures emptied { IfOk result (λ after. Becomes ledger.now.entries overlay after (emptied owner.now namespace.now)) }
+    ensures emptied { IfOk result (λ after. Becomes ledger.now.entries overlay after
+        (emptied owner.now namespace.now)) }
 {
     let first = Key::State(*owner, *namespace, Hash256([0; 32]));
     let mut after = overlay;

@@ -32,7 +32,8 @@ pub fn set_hooks(
 ) -> Result<Done, NoMemory>
     requires right { AreRight items.now }
     requires reserve { reserve (with_writes ledger.now.entries overlay) account.now ≤ 100000000000000000 }
-    ensures end { IfOk result (λ done. (e : Engine) → e.checks ≡ checked_in → e.reserve ≡ reserve → Performs ledger.now.entries overlay done (hooks_end e account.now items.now)) }
+    ensures end { IfOk result (λ done. (e : Engine) → e.checks ≡ checked_in → e.reserve ≡ reserve →
+        Performs ledger.now.entries overlay done (hooks_end e account.now items.now)) }
 {
     match perform_all(alloc, ledger, overlay, account, items)? {
         Done::Failed(name) => Ok(Done::Failed(name)),
@@ -55,7 +56,8 @@ fn perform_all(
     items: &[HookItem],
 ) -> Result<Done, NoMemory>
     requires right { AreRight items.now }
-    ensures end { IfOk result (λ done. Performs ledger.now.entries overlay done (items_end plain account.now 0 items.now)) }
+    ensures end { IfOk result (λ done. Performs ledger.now.entries overlay done
+        (items_end plain account.now 0 items.now)) }
 {
     let mut after = overlay;
     let mut position = 0;
@@ -82,7 +84,8 @@ fn perform(
     item: &HookItem,
 ) -> Result<Done, NoMemory>
     requires known { IsKnown item.now }
-    ensures end { IfOk result (λ done. Performs ledger.now.entries overlay done (item_end plain place.owner place.position item.now)) }
+    ensures end { IfOk result (λ done. Performs ledger.now.entries overlay done
+        (item_end plain place.owner place.position item.now)) }
 {
     match item {
         HookItem::Noop => Ok(Done::Kept(overlay)),

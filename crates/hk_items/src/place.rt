@@ -36,7 +36,8 @@ pub fn has(ledger: &Ledger, overlay: &Overlay, key: &Key) -> bool
 
 /// Puts the hook that is installed at a place.
 pub fn put_hook(overlay: Overlay, place: Place, entry: Entry) -> Result<Overlay, NoMemory>
-    ensures put { IfOk result (λ after. (m : Entries) → Becomes m overlay after (put_entry (key.Install place.owner place.position) entry)) }
+    ensures put { IfOk result (λ after. (m : Entries) → Becomes m overlay after
+        (put_entry (key.Install place.owner place.position) entry)) }
 {
     let mut after = overlay;
     after.put(place.key(), entry)?;
@@ -45,7 +46,8 @@ pub fn put_hook(overlay: Overlay, place: Place, entry: Entry) -> Result<Overlay,
 
 /// Removes the hook that is installed at a place, if there is one.
 pub fn cut_hook(overlay: Overlay, place: Place) -> Result<Overlay, NoMemory>
-    ensures cut { IfOk result (λ after. (m : Entries) → Becomes m overlay after (cut_entry (key.Install place.owner place.position))) }
+    ensures cut { IfOk result (λ after. (m : Entries) → Becomes m overlay after
+        (cut_entry (key.Install place.owner place.position))) }
 {
     let mut after = overlay;
     after.remove(place.key())?;

@@ -1,4 +1,7 @@
+pub mod Defining
 pub mod Whole
-pub mod Settling
-pub mod Reported
+pub mod Applied
+pub mod Entered
+pub mod Lined
 pub mod Conserving
+pub mod Units

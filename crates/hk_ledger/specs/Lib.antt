@@ -1,6 +1,4 @@
-pub mod Transactions
-pub mod Conserved
 pub mod World
-pub mod Machine
 pub mod Reports
+pub mod Machine
 pub mod Replays

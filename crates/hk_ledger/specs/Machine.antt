@@ -1,22 +1,17 @@
 -- The ledger machine, line by line. This project's own.
-use Rattle.std.specs.Prelude.{◌≡◌, ℕ, ◌+◌, ◌≤◌, Bool, not, nat_lt, nat_le, List, [], ◌∷◌, ◌++◌, Option, Some, None, is_some, refl}
+use Rattle.std.specs.Prelude.{◌≡◌, ℕ, ◌+◌, ◌≤◌, Bool, not, nat_lt, nat_le, List, [], ◌∷◌, ◌++◌, Option, Some, None}
+use Rattle.std.specs.Prelude.{is_some, refl}
 use Rattle.std.specs.Coded.{Coded, code_by, coded×, coded_ℕ}
-use Rattle.std.specs.FinMap.{entries}
 use Rattle.hk_base.specs.declared.ids.AccountId.{AccountId}
 use Rattle.hk_lines.specs.declared.input_line.InputLine.{InputLine}
 use Rattle.hk_lines.specs.declared.input_line.InputLine.TheVariants.{Account, Ledger, Tx, Hook, End}
 use Rattle.hk_lines.specs.declared.output_line.OutputLine.{OutputLine}
 use Rattle.hk_lines.specs.declared.output_line.OutputLine.TheVariants as printed
+use Rattle.hk_lines.specs.declared.result_name.ResultName.{ResultName}
 use Rattle.hk_lines.specs.declared.rule.Rule.{Rule}
 use Rattle.hk_lines.specs.declared.rule.Rule.TheVariants.{BadWord, BadOrder, RepeatedAccount, Total}
 use Rattle.hk_lines.specs.declared.verdict.Verdict.{Verdict}
 use Rattle.hk_base.specs.declared.ids.Hash256.{Hash256}
-use Rattle.hk_reading.specs.declared.reading.Reading.{Reading}
-use Rattle.hk_reading.specs.Reading.{reading}
-use Rattle.hk_state.specs.declared.key.Key.{Key}
-use Rattle.hk_state.specs.declared.key.Key.TheVariants as key
-use Rattle.hk_state.specs.declared.entry.Entry.{Entry}
-use Rattle.hk_state.specs.declared.entry.Entry.TheVariants as entry
 use Rattle.hk_ledger.specs.declared.replay.Stepped.{Stepped}
 use Rattle.hk_ledger.specs.declared.replay.Stepped.TheVariants.{Goes, Ends, Breaks}
 use Rattle.hk_state.specs.Holdings.{holding_at}
@@ -24,7 +19,9 @@ use Rattle.hk_state.specs.Balances.{balances}
 use Rattle.hk_state.specs.Ledger.{LedgerValue, new_ledger, coded_ledger, with_header}
 use Rattle.hk_base.specs.Rows.{first_row}
 use Rattle.hk_state.specs.Rules.{Rules}
-use Rattle.hk_ledger.specs.Transactions.{Applied, applied, so_far}
+use Rattle.hk_events.specs.Events.{Event, applied}
+use Rattle.hk_engine.specs.Engine.{engine_of}
+use Rattle.hk_final.specs.Final.{final_lines}
 use Rattle.hk_ledger.specs.World.{most_drops, with_account}
 
 -- a ledger, and how many transactions came before
@@ -33,7 +30,9 @@ pub record State : Type 0 where
   pub count : ℕ
 
 abbrev pub coded_state : Coded State
-coded_state = code_by (LedgerValue × ℕ) (coded× coded_ledger coded_ℕ) (λ s. (s.ledger, s.count)) (λ p. record { ledger = p.0; count = p.1 }) (λ _. refl)
+coded_state =
+    code_by (LedgerValue × ℕ) (coded× coded_ledger coded_ℕ) (λ s. (s.ledger, s.count))
+    (λ p. record { ledger = p.0; count = p.1 }) (λ _. refl)
 
 abbrev pub start : State
 start = record { ledger = new_ledger; count = 0 }
@@ -68,40 +67,37 @@ abbrev pub unless_broken : Option Rule → Step → Step
 unless_broken None step = step
 unless_broken (Some rule) step = breaks rule
 
--- a transaction is counted, and its line printed
-abbrev pub counted : ℕ → Applied → Step
-counted count done = goes (record { ledger = done.ledger; count = count + 1 }) (printed.Tx (count + 1) done.result done.fee ∷ [])
+-- the line of a transaction with this number
+abbrev pub tx_line : ℕ → Option ResultName → ℕ → List OutputLine
+tx_line number None fee = []
+tx_line number (Some name) fee = printed.Tx number name fee ∷ []
 
--- at the end, an account's line
-abbrev pub account_line : Key → Entry → List OutputLine
-account_line (key.Account id) (entry.Account balance sequence) = printed.FinalAccount id balance sequence 0 0 ∷ []
-account_line other entry = []
-
--- the lines of all accounts, in the order of their ids
-abbrev pub account_lines : List (Key × Entry) → List OutputLine
-account_lines [] = []
-account_lines (e ∷ es) = account_line e.0 e.1 ++ account_lines es
-
-abbrev pub final_lines : LedgerValue → List OutputLine
-final_lines ledger = account_lines (entries ledger.entries) ++ printed.FinalTotal (balances ledger.entries) ledger.burnt ∷ printed.Done ∷ []
+-- a transaction is counted, and its line is printed, and then those of the event
+abbrev pub counted : ℕ → Event → Step
+counted count event =
+    goes (record { ledger = event.ledger; count = count + 1 })
+    (tx_line (count + 1) event.result event.fee ++ event.lines)
 
 abbrev pub account_step : State → AccountId → ℕ → ℕ → Step
 account_step s id balance sequence =
-    unless_broken (first_row (account_rules s.ledger id balance)) (goes (record s { ledger = with_account s.ledger id balance sequence }) [])
+    unless_broken (first_row (account_rules s.ledger id balance))
+    (goes (record s { ledger = with_account s.ledger id balance sequence }) [])
 
 abbrev pub ledger_step : State → ℕ → ℕ → Hash256 → Step
 ledger_step s seq time last_hash =
     unless_broken (first_row (ledger_rules s.ledger seq))
-    (goes (record s { ledger = with_header s.ledger (record { seq = seq; time = time; last_hash = last_hash }) }) (printed.Ledger seq ∷ []))
+    (goes (record s { ledger = with_header s.ledger (record { seq = seq; time = time; last_hash = last_hash }) })
+    (printed.Ledger seq ∷ []))
 
-abbrev pub tx_step : Rules → State → Verdict → Reading → Step
-tx_step rules s verdict reading = unless_broken (first_row (tx_rules s.ledger)) (counted s.count (applied rules s.ledger verdict reading))
+abbrev pub tx_step : Rules → State → Verdict → List ℕ → Step
+tx_step rules s verdict blob =
+    unless_broken (first_row (tx_rules s.ledger)) (counted s.count (applied (engine_of rules) s.ledger verdict blob))
 
 -- one line, by the rules for transactions; a `hook` line is no line of a replay
 abbrev pub step : Rules → State → InputLine → Step
 step rules s (Account id balance sequence) = account_step s id balance sequence
 step rules s (Ledger seq time last_hash) = ledger_step s seq time last_hash
-step rules s (Tx verdict blob) = tx_step rules s verdict (so_far (reading blob))
+step rules s (Tx verdict blob) = tx_step rules s verdict blob
 step rules s (Hook code) = breaks BadWord
 step rules s End = ends (final_lines s.ledger)
 

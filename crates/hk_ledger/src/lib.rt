@@ -1,10 +1,13 @@
 //! The ledger and what changes it: accounts, opened ledgers and transactions.
 #![tactic(auto)]
 
+mod emits;
+mod entering;
 mod laws;
-mod lines;
+mod queue;
 mod replay;
 mod report;
+mod states;
 mod transactions;
 mod world;
 

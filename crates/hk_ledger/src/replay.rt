@@ -1,11 +1,11 @@
 //! A replay of a ledger, line by line.
-ghost use Rattle.std.specs.Prelude.{◌≡◌, ◌+◌, ◌<◌, ◌≤◌, ◌^◌, IfOk, OnErr, OnOk};
-ghost use Rattle.hk_ledger.specs.Machine.{start, Steps, account_step, ledger_step, tx_step, step, final_lines, ends, IsInRange};
-ghost use Rattle.hk_reading.specs.Reading.{reading};
-ghost use Rattle.hk_ledger.specs.Transactions.{so_far};
+ghost use Rattle.std.specs.Prelude.{◌≡◌, ◌≤◌, ◌++◌, IfOk};
+ghost use Rattle.hk_ledger.specs.Machine.{start, Steps, account_step, ledger_step, tx_step, tx_line, step};
+ghost use Rattle.hk_final.specs.Final.{final_lines};
+ghost use Rattle.hk_ledger.specs.Machine.{ends, IsInRange};
 ghost use Rattle.hk_ledger.specs.World.{most_drops};
 
-use crate::{OpenFault, World, apply, open_account, open_ledger};
+use crate::{OpenFault, Report, World, apply, open_account, open_ledger};
 use hk_base::{AccountId, Hash256, Items, NoMemory};
 use hk_lines::{InputLine, OutputLine, Rule, Verdict};
 use hk_state::Transactor;
@@ -60,7 +60,8 @@ impl Replay {
         sequence: u32,
     ) -> Result<Stepped, NoMemory>
         requires most { balance ≤ most_drops }
-        ensures ok { IfOk result (λ stepped. Steps (account_step self.old id.now balance sequence) self.new stepped) }
+        ensures ok { IfOk result (λ stepped.
+            Steps (account_step self.old id.now balance sequence) self.new stepped) }
     {
         if self.world.ledger().header().seq > 0 {
             return Ok(Stepped::Breaks(Rule::BadOrder));
@@ -92,8 +93,8 @@ impl Replay {
         Ok(Stepped::Goes(lines))
     }
 
-    // A line with a transaction, by the verdict on its signature and by its bytes. No input has so many of them that their number
-    // isn't a number of 64 bits.
+    // A line with a transaction, by the verdict on its signature and by its bytes. No input has so many of them that
+    // their number isn't a number of 64 bits.
     fn transaction<T: Transactor>(
         &mut self,
         alloc: Global,
@@ -101,7 +102,7 @@ impl Replay {
         verdict: Verdict,
         blob: &[u8],
     ) -> Result<Stepped, NoMemory>
-        ensures ok { IfOk result (λ stepped. Steps (tx_step T.rules self.old verdict (so_far (reading blob.now))) self.new stepped) }
+        ensures ok { IfOk result (λ stepped. Steps (tx_step T.rules self.old verdict blob.now) self.new stepped) }
     {
         if self.count == u64::MAX {
             return Err(AllocError);
@@ -111,16 +112,7 @@ impl Replay {
         }
         let report = apply(alloc, &mut self.world, rules, verdict, blob)?;
         self.count += 1;
-        let mut lines = Items::new(alloc);
-        match report.result {
-            Some(result) => lines.push(OutputLine::Tx {
-                number: self.count,
-                result,
-                fee: report.fee,
-            })?,
-            None => unreachable!(),
-        }
-        Ok(Stepped::Goes(lines))
+        Ok(Stepped::Goes(tx_lines(alloc, self.count, report)?))
     }
 
     // The last line.
@@ -161,4 +153,22 @@ impl Replay {
             InputLine::End => self.end(alloc),
         }
     }
+}
+
+/// The line of a transaction with this number, and those that follow.
+fn tx_lines(alloc: Global, number: u64, report: Report) -> Result<Items<OutputLine>, NoMemory>
+    ensures lines { IfOk result (λ lines. lines ≡ tx_line number report.result report.fee ++ report.lines) }
+{
+    let Report { result, fee, lines } = report;
+    let mut shown = Vec::new(alloc);
+    if let Some(result) = result {
+        shown.push(OutputLine::Tx {
+            number,
+            result,
+            fee,
+        })?;
+    }
+    let mut more = lines.into_vec();
+    shown.append(&mut more)?;
+    Ok(Items::from_vec(shown))
 }

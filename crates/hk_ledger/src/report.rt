@@ -16,13 +16,13 @@ pub struct Report {
 }
 
 impl Report {
-    // A report without lines. It takes no memory.
-    pub(crate) fn of(alloc: Global, name: ResultName, fee: u64) -> Report
-        ensures report { result ≡ record { result = Some name; fee = fee; lines = [] } }
+    /// The report of a transaction that changes nothing. It takes no memory.
+    pub(crate) fn refused(alloc: Global, name: ResultName) -> Report
+        ensures report { result ≡ record { result = Some name; fee = 0; lines = [] } }
     {
         Report {
             result: Some(name),
-            fee,
+            fee: 0,
             lines: Items::new(alloc),
         }
     }

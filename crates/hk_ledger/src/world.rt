@@ -1,16 +1,14 @@
 //! A ledger under change, and the total that its accounts were opened with.
 ghost use Rattle.std.specs.Prelude.{◌≡◌, ◌+◌, ◌<◌, ◌≤◌, ◌^◌, ◌↔◌, ℕ, None, Err, IfOk, IsSome, OnErr, OnOk};
-ghost use Rattle.hk_base.specs.declared.ids.AccountId.{AccountId};
-ghost use Rattle.hk_state.specs.Balances.{balances};
 ghost use Rattle.hk_state.specs.Holdings.{holding_at};
 ghost use Rattle.hk_state.specs.Ledger.{with_header};
-ghost use Rattle.hk_state.specs.Reserves.{reserve};
-ghost use Rattle.hk_ledger.specs.Machine.{final_lines};
+ghost use Rattle.hk_final.specs.Final.{final_lines};
 ghost use Rattle.hk_ledger.specs.Replays.{AddsUp};
-ghost use Rattle.hk_ledger.specs.World.{new_world, opened, with_account, most_drops};
+ghost use Rattle.hk_ledger.specs.World.{IsWhole, new_world, opened, with_account, most_drops};
 
-use crate::lines::account_lines;
 use hk_base::{AccountId, Hash256, Items, NoMemory};
+use hk_chain::Programs;
+use hk_final::final_lines;
 use hk_lines::OutputLine;
 use hk_state::{Header, Holding, Ledger, Overlay};
 use std::alloc::Global;
@@ -33,15 +31,19 @@ pub enum OpenFault {
     NoMemory,
 }
 
-/// A ledger whose balances and burnt fees add up to the balances that its accounts were opened with.
+/// A ledger whose balances and burnt fees add up to the balances that its accounts were opened with, and whose hooks
+/// and queued emissions are whole.
 #[derive(Drop)]
 pub struct World {
     pub(crate) ledger: Ledger,
+    // The checked hooks of the ledger's Definitions, each once it was needed.
+    pub(crate) programs: Programs,
     opening: u64,
     alloc: Global,
 }
 
 impl Model for World {
+    ghost use Rattle.hk_chain.specs.Programs.{AreOf};
     ghost use Rattle.hk_ledger.specs.World.{WorldValue, coded_world, IsWhole};
 
     ghost Value = { WorldValue };
@@ -50,7 +52,7 @@ impl Model for World {
 
     ghost view = { λ w. record { ledger = w.ledger; opening = w.opening } };
 
-    ghost invariant = { λ w. IsWhole w.ledger w.opening };
+    ghost invariant = { λ w. IsWhole w.ledger w.opening × AreOf w.ledger.entries w.programs };
 }
 
 impl World {
@@ -60,6 +62,7 @@ impl World {
     {
         World {
             ledger: Ledger::new(alloc),
+            programs: Programs::new(alloc),
             opening: 0,
             alloc,
         }
@@ -67,26 +70,19 @@ impl World {
 
     pub fn ledger(&self) -> &Ledger
         ensures ledger { result.now ≡ self.now.ledger }
-        ensures conserved { balances self.now.ledger.entries + self.now.ledger.burnt ≡ self.now.opening }
-        ensures most { self.now.opening ≤ most_drops }
-        ensures reserves { (id : AccountId) → reserve self.now.ledger.entries id ≤ most_drops }
+        ensures whole { IsWhole self.now.ledger self.now.opening }
     {
         &self.ledger
     }
 
-    /// The lines at the end: each account, and the sums of the balances and of the burnt fees.
+    /// The lines at the end: each account, Install, State entry and queued emission, and the sums of the balances and of
+    /// the burnt fees.
     pub fn final_lines(&self, alloc: Global) -> Result<Items<OutputLine>, NoMemory>
         ensures lines { IfOk result (λ lines. lines ≡ final_lines self.now.ledger) }
         ensures total { IfOk result (λ lines. AddsUp self.now.opening lines) }
     {
-        let mut lines = account_lines(alloc, &self.ledger)?;
         let burnt = self.ledger.burnt();
-        lines.push(OutputLine::FinalTotal {
-            balances: self.opening - burnt,
-            burnt,
-        })?;
-        lines.push(OutputLine::Done)?;
-        Ok(lines)
+        final_lines(alloc, &self.ledger, self.opening - burnt)
     }
 }
 
@@ -103,7 +99,8 @@ pub fn open_account(
     ensures ok { OnOk result (world.new ≡ opened world.old id.now balance sequence) }
     ensures err { OnErr result (world.new ≡ world.old) }
     ensures repeated { (result ≡ Err OpenFault.Repeated) ↔ IsSome (holding_at world.old.ledger.entries id.now) }
-    ensures total { (result ≡ Err OpenFault.Total) ↔ ((holding_at world.old.ledger.entries id.now ≡ None) × (most_drops < world.old.opening + balance)) }
+    ensures total { (result ≡ Err OpenFault.Total)
+        ↔ ((holding_at world.old.ledger.entries id.now ≡ None) × (most_drops < world.old.opening + balance)) }
 {
     if world.ledger.holding(id).is_some() {
         return Err(OpenFault::Repeated);
@@ -145,7 +142,9 @@ fn open(
 
 /// Opens a ledger: sets the header, and changes nothing else. It takes no memory.
 pub fn open_ledger(world: &mut World, seq: u32, time: u32, last_hash: &Hash256)
-    ensures opened { world.new ≡ record world.old { ledger = with_header world.old.ledger (record { seq = seq; time = time; last_hash = last_hash.now }) } }
+    ensures opened { world.new ≡ record world.old {
+      ledger = with_header world.old.ledger (record { seq = seq; time = time; last_hash = last_hash.now });
+    } }
 {
     let header = Header {
         seq,

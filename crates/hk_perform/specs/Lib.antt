@@ -1,2 +1,3 @@
 pub mod Meets
 pub mod Needs
+pub mod Acts

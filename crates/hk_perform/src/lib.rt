@@ -1,8 +1,12 @@
 //! A transaction on a ledger with hooks: its results in order, the chains of both sides, and what it does itself.
 #![tactic(auto)]
 
+mod acting;
+mod charging;
 mod origin;
 mod performed;
+mod refusal;
+mod sides;
 mod transaction;
 
 pub use origin::Origin;

@@ -21,9 +21,7 @@ use Rattle.hk_lines.specs.declared.status.Status.TheVariants.{Done}
 use Rattle.hk_loop.specs.Answers.{IsAnswer}
 use Rattle.hk_ledger.specs.Machine.{State, start, Step, goes, ends, breaks, step}
 use Rattle.hk_state.specs.Native.{native}
-use Rattle.hk_state.specs.NativeLaws.{native_sum}
-use Rattle.hk_ledger.specs.Replays.{continued, replayed}
-use Rattle.hk_ledger.proofs.Conserving.{conserved as ledger_conserved}
+use Rattle.hk_ledger.specs.Replays.{Conserves, continued, replayed}
 use Rattle.hk_replay.specs.declared.command.Command.TheVariants.{Replay}
 use Rattle.hk_replay.specs.Conserved.{read_before, line_before, last_lines, cut_lines, input_lines, Conserved}
 use Rattle.hk_replay.specs.Moved.{Answered}
@@ -142,10 +140,10 @@ ending front balances burnt =
     texts_append front (shown.FinalTotal balances burnt ∷ shown.Done ∷ [])
     ∙ ap (λ t. texts front ++ (line_text (shown.FinalTotal balances burnt) ++ t)) (append-nil (line_text shown.Done))
 
-sums : (bytes text : List ℕ) (before now : Option (List ℕ)) → Shows (replayed native start (input_lines bytes)) text →
+sums : Conserves native → (bytes text : List ℕ) (before now : Option (List ℕ)) → Shows (replayed native start (input_lines bytes)) text →
     Appends before now text → Conserved bytes before now
-sums bytes text before now s wrote =
-    let adds = ledger_conserved native native_sum (input_lines bytes) s.lines s.is in
+sums law bytes text before now s wrote =
+    let adds = law (input_lines bytes) s.lines s.is in
     let same : text ≡ texts adds.front ++
     (line_text (shown.FinalTotal adds.balances adds.burnt) ++ line_text shown.Done) =
     s.told ∙ ap texts adds.whole ∙ ending adds.front adds.balances adds.burnt in
@@ -157,17 +155,17 @@ sums bytes text before now s wrote =
       sum = adds.sum;
     }
 
-conserved : (bytes : List ℕ) (before now : Option (List ℕ)) → Answered Replay bytes Done before now →
-    Conserved bytes before now
-conserved bytes before now a =
-    sums bytes a.text before now
+conserved : Conserves native → (bytes : List ℕ) (before now : Option (List ℕ)) →
+    Answered Replay bytes Done before now → Conserved bytes before now
+conserved law bytes before now a =
+    sums law bytes a.text before now
     (subst (λ t. Shows (replayed native start (input_lines bytes)) t) (sym a.given.0)
     (cut_shows (cut (take longest_input bytes)) start 1 (close_of replay_turn longest_input bytes ended) a.given.1))
     a.wrote
 
-pub done_conserved : (bytes : List ℕ) (status : Status) (before now : Option (List ℕ)) → status ≡ Done →
-    (IsAnswer status → Answered Replay bytes status before now) →
+pub done_conserved : Conserves native → (bytes : List ℕ) (status : Status) (before now : Option (List ℕ)) →
+    status ≡ Done → (IsAnswer status → Answered Replay bytes status before now) →
     Conserved bytes before now
-done_conserved bytes status before now is answered =
-    conserved bytes before now
+done_conserved law bytes status before now is answered =
+    conserved law bytes before now
     (subst (λ s. Answered Replay bytes s before now) is (answered (subst IsAnswer (sym is) tt)))

@@ -6,7 +6,6 @@ use Rattle.std.specs.FinMap.{get, get-empty, get-insert}
 use Rattle.std.proofs.lemmas.Bool.{ltb-false, leb-false}
 use Rattle.std.proofs.lemmas.Map.Text.{is_eq-slice_cmp}
 use Rattle.hk_base.specs.declared.ids.AccountId.{AccountId}
-use Rattle.hk_reading.specs.Reading.{reading}
 use Rattle.hk_lines.specs.Lines.{takes, turned, turn_of}
 use Rattle.hk_lines.proofs.Fusing.{fuses_law}
 use Rattle.hk_lines.specs.declared.input_line.InputLine.{InputLine}
@@ -16,8 +15,6 @@ use Rattle.hk_lines.specs.declared.rule.Rule.{Rule}
 use Rattle.hk_lines.specs.declared.rule.Rule.TheVariants.{BadOrder, RepeatedAccount, Total}
 use Rattle.hk_lines.specs.declared.verdict.Verdict.{Verdict}
 use Rattle.hk_lines.specs.declared.output_line.OutputLine.{OutputLine}
-use Rattle.hk_reading.specs.declared.reading.Reading.{Reading}
-use Rattle.hk_reading.specs.declared.reading.Reading.TheVariants as reads
 use Rattle.hk_state.specs.declared.entry.Entry.TheVariants as entry
 use Rattle.hk_state.specs.declared.key.Key.TheVariants as key
 use Rattle.hk_state.specs.Balances.{balances-empty, sum_new}
@@ -29,8 +26,8 @@ use Rattle.hk_ledger.specs.Machine.{unless_broken, goes}
 use Rattle.hk_state.specs.Native.{native}
 use Rattle.hk_base.specs.Rows.{first_row}
 use Rattle.hk_state.specs.Rows.{none_applies}
-use Rattle.hk_state.specs.Rules.{keeps, fails}
-use Rattle.hk_ledger.specs.Transactions.{applied, goes_on, settled, so_far, refusal_rows, paid}
+use Rattle.hk_events.specs.Events.{applied}
+use Rattle.hk_engine.specs.Engine.{engine_of}
 use Rattle.hk_ledger.specs.World.{most_drops, with_account}
 use Rattle.hk_state.proofs.Told.{is_none}
 use Rattle.hk_replay.specs.ReplayLines.{Order, no_lines, is_among, account_faults, ledger_faults, tx_faults}
@@ -129,34 +126,17 @@ opened_seq : (seq old : ℕ) → first_row ((nat_le seq old, BadOrder) ∷ []) �
 opened_seq seq old h is =
     let above = leb-false seq old (none_applies ((nat_le seq old, BadOrder) ∷ []) h).0 in omega (arith, above, is)
 
--- a transaction keeps the header
-applied_header : (ledger : LedgerValue) (verdict : Verdict) (read : Reading) →
-    (applied native ledger verdict read).ledger.header ≡ ledger.header
-applied_header ledger verdict reads.TooLong = refl
-applied_header ledger verdict reads.Unparsed = refl
-applied_header ledger verdict reads.Malformed = refl
-applied_header ledger verdict (reads.Transaction t) =
-    elim (first_row (refusal_rows ledger verdict t)) as
-    (λ found. (goes_on native ledger t found).ledger.header ≡ ledger.header) [
-      | None ↦ elim (native ledger.header (paid ledger.entries t) t) as
-          (λ effect. (settled ledger t effect).ledger.header ≡ ledger.header) [
-            | keeps m ↦ refl
-            | fails name ↦ refl
-          ]
-      | Some name ↦ refl
-    ]
-
 in_ledger : (seq : ℕ) → first_row ((not (nat_lt 0 seq), BadOrder) ∷ []) ≡ None → seq ≡ 0 → ⊥
 in_ledger zero h is = cc
 in_ledger (suc seq) h is = cc
 
-tx_agrees : (order : Order) (s : State) (verdict : Verdict) (read : Reading) (count : ℕ) → Agrees order s →
+tx_agrees : (order : Order) (s : State) (verdict : Verdict) (blob : List ℕ) (count : ℕ) → Agrees order s →
     first_row (tx_rules s.ledger) ≡ None →
-    Agrees order (record { ledger = (applied native s.ledger verdict read).ledger; count = count })
-tx_agrees order s verdict read count a right =
+    Agrees order (record { ledger = (applied (engine_of native) s.ledger verdict blob).ledger; count = count })
+tx_agrees order s verdict blob count a right =
     let never : order.seq ≡ 0 → ⊥ = λ none. in_ledger s.ledger.header.seq right (sym a.seq ∙ none) in
     record {
-      seq = a.seq ∙ sym (ap (λ h. h.seq) (applied_header s.ledger verdict read));
+      seq = a.seq;
       total = λ none. absurd (never none);
       accounts = λ none. absurd (never none);
     }
@@ -179,7 +159,7 @@ ordered_same order s (Ledger seq time last_hash) a =
 ordered_same order s (Tx verdict blob) a =
     same_unless (first_row (tx_faults order)) (first_row (tx_rules s.ledger)) s order (Tx verdict blob) _ _
     (ap (λ n. first_row ((not (nat_lt 0 n), BadOrder) ∷ [])) a.seq) refl
-    (tx_agrees order s verdict (so_far (reading blob)) (s.count + 1) a)
+    (tx_agrees order s verdict blob (s.count + 1) a)
 ordered_same order s (Hook code) a = refl
 ordered_same order s End a = (refl, refl)
 

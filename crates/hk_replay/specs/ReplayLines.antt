@@ -1,9 +1,8 @@
 -- The lines of a replay by their order, and the ledger machine that goes through right lines (this project's own).
 use Rattle.std.specs.Prelude.{◌≡◌, ℕ, ◌+◌, Bool, false, ◌||◌, not, nat_lt, nat_le}
-use Rattle.std.specs.Prelude.{List, [], ◌∷◌, Option, Some, None, Result, Ok, Err}
+use Rattle.std.specs.Prelude.{List, [], ◌∷◌, ◌++◌, Option, Some, None, Result, Ok, Err}
 use Rattle.std.specs.Str.{bytes_eq}
 use Rattle.hk_base.specs.declared.ids.AccountId.{AccountId}
-use Rattle.hk_reading.specs.Reading.{reading}
 use Rattle.hk_lines.specs.Given.{Close, given}
 use Rattle.hk_lines.specs.Lines.{Read, takes, closes, refuses, Machine, lines, fold_lines}
 use Rattle.hk_lines.specs.declared.input_line.InputLine.{InputLine}
@@ -14,10 +13,12 @@ use Rattle.hk_lines.specs.declared.output_line.OutputLine.TheVariants as shown
 use Rattle.hk_lines.specs.declared.rule.Rule.{Rule}
 use Rattle.hk_lines.specs.declared.rule.Rule.TheVariants.{BadWord, BadOrder, RepeatedAccount, Total}
 use Rattle.hk_lines.specs.declared.status.Status.TheVariants.{Done}
-use Rattle.hk_ledger.specs.Machine.{State, start, final_lines}
+use Rattle.hk_ledger.specs.Machine.{State, start, tx_line}
+use Rattle.hk_final.specs.Final.{final_lines}
 use Rattle.hk_state.specs.Native.{native}
 use Rattle.hk_base.specs.Rows.{first_row}
-use Rattle.hk_ledger.specs.Transactions.{Applied, applied, so_far}
+use Rattle.hk_events.specs.Events.{Event, applied}
+use Rattle.hk_engine.specs.Engine.{engine_of}
 use Rattle.hk_ledger.specs.World.{most_drops, with_account}
 use Rattle.hk_state.specs.Ledger.{with_header}
 use Rattle.hk_replay.specs.Replaying.{texts, replay_turn}
@@ -81,10 +82,12 @@ ordered_read order (Err fault) = refuses (rule_of fault)
 abbrev pub replay_line : Order → List ℕ → Read Order InputLine
 replay_line order line = ordered_read order (read_if (is_replay_line line) line)
 
--- an event leaves its ledger, and its line is printed
-abbrev pub after_event : State → Applied → State × List OutputLine
-after_event s done =
-    (record { ledger = done.ledger; count = s.count + 1 }, shown.Tx (s.count + 1) done.result done.fee ∷ [])
+-- an event leaves its ledger, and its line is printed, and then those that follow it
+abbrev pub after_event : State → Event → State × List OutputLine
+after_event s event = (
+  record { ledger = event.ledger; count = s.count + 1 },
+  tx_line (s.count + 1) event.result event.fee ++ event.lines,
+)
 
 -- what a right line does and prints
 abbrev pub right_step : State → InputLine → State × List OutputLine
@@ -93,7 +96,7 @@ right_step s (Ledger seq time last_hash) = (
   record s { ledger = with_header s.ledger (record { seq = seq; time = time; last_hash = last_hash }) },
   shown.Ledger seq ∷ [],
 )
-right_step s (Tx verdict blob) = after_event s (applied native s.ledger verdict (so_far (reading blob)))
+right_step s (Tx verdict blob) = after_event s (applied (engine_of native) s.ledger verdict blob)
 right_step s other = (s, [])
 
 -- at the end, accounts and totals are printed

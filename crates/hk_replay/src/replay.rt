@@ -9,8 +9,10 @@ use crate::command::Command;
 use crate::limits::LONGEST_INPUT;
 use crate::replaying::Replaying;
 use hk_base::{Sink, Source};
+use hk_ledger::conserves;
 use hk_lines::Status;
 use hk_loop::go_through;
+use hk_state::Native;
 use std::alloc::Global;
 
 /// The command `replay`: its lines are a replay, and each is answered before the next is read.
@@ -29,6 +31,7 @@ pub(crate) fn answer_replay<S: Source, K: Sink>(
     ensures cause { HasCause result (S.faults source.old) (S.faults source.new)
         (K.faults sink.old) (K.faults sink.new) }
 {
+    conserves::<Native>();
     let mut replaying = Replaying::new(alloc);
     go_through(alloc, LONGEST_INPUT, &mut replaying, source, sink)
 }

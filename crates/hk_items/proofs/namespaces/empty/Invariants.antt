@@ -5,7 +5,7 @@ use Rattle.hk_items.proofs.Walked.{rest, Walking}
 use Rattle.hk_items.proofs.namespaces.empty.Given as goal
 
 abbrev pub invariant-loop-next : goal.invariant-loop-next
-invariant-loop-next l = Walking l.owner l.namespace l.ledger.entries l.overlay l.after l.next
+invariant-loop-next l = Walking l.owner l.namespace l.ledger.entries l.fn.overlay l.after l.next
 
 abbrev pub decreases-loop-next : goal.decreases-loop-next
-decreases-loop-next l = length (rest l.owner l.namespace (entries (with_writes l.ledger.entries l.overlay)) l.next)
+decreases-loop-next l = length (rest l.owner l.namespace (entries (with_writes l.ledger.entries l.fn.overlay)) l.next)

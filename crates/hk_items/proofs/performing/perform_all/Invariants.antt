@@ -9,4 +9,6 @@ use Rattle.hk_items.proofs.performing.perform_all.Given as goal
 abbrev pub invariant-loop-item : goal.invariant-loop-item
 invariant-loop-item l =
     (l.position ≡ l.item-index)
-    × ((es : List Emission) → items_end plain l.account l.position (drop l.item-index l.items) (draft_of l.ledger.entries l.after es) ≡ items_end plain l.account 0 l.items (draft_of l.ledger.entries l.overlay es))
+    × ((es : List Emission) → items_end plain l.account l.position (drop l.item-index l.items)
+    (draft_of l.ledger.entries l.after es) ≡ items_end plain l.account 0 l.items
+    (draft_of l.ledger.entries l.fn.overlay es))

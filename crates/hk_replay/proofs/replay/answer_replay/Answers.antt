@@ -14,7 +14,7 @@ returns-clause-stops g c = λ bytes told.
 
 pub returns-clause-conserved : goal.returns-clause-conserved
 returns-clause-conserved g c = λ done bytes told.
-    done_conserved bytes c.go_through.result _ _ done
+    done_conserved c.conserves.ensures.law bytes c.go_through.result _ _ done
     (λ answer.
     replay_answered _ bytes c.go_through.result _ _ c.new-replaying.ensures.start
     (c.go_through.ensures.answered answer bytes told))

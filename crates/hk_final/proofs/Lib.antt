@@ -1,0 +1,7 @@
+pub mod There
+pub mod Entered
+pub mod Totals
+pub mod Numbers
+pub mod Reserved
+pub mod Plain
+pub mod Counted
