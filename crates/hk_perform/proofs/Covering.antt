@@ -93,7 +93,7 @@ paid_covered ledger origin t covered pays =
           omega (arith, put, same, most, funded);
       reserves = λ id.
           let alike = reserve_rests ledger.entries (with_holding m t.account left next) id (λ k h.
-              get-with_holding m t.account left next k (own_account id k h (Some t.account)) ∙ found_own ledger origin id k h) in
+          get-with_holding m t.account left next k (own_account id k h (Some t.account)) ∙ found_own ledger origin id k h) in
           let most = covered.reserves id in
           omega (arith, alike, most);
     })

@@ -131,12 +131,16 @@ pub(crate) fn run_sides(
     engines_measured();
     let account = &setting.transaction.account;
     let emissions = Items::new(alloc);
-    match run_chain(alloc, programs, ledger, overlay, emissions, setting, account)? {
+    match run_chain(
+        alloc, programs, ledger, overlay, emissions, setting, account,
+    )? {
         ChainEnd::Rejected { records } => Ok(ChainEnd::Rejected { records }),
         ChainEnd::Kept {
             overlay,
             emissions,
             records,
-        } => run_other(alloc, programs, ledger, overlay, emissions, records, setting),
+        } => run_other(
+            alloc, programs, ledger, overlay, emissions, records, setting,
+        ),
     }
 }

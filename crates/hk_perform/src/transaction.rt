@@ -92,7 +92,12 @@ pub fn perform<T: Transactor>(
     let overlay = charge(alloc, ledger, origin, transaction)?;
     match run_sides(alloc, programs, ledger, overlay, setting)? {
         ChainEnd::Rejected { records } => failed(
-            alloc, ledger, origin, transaction, ResultName::HookRejected, records,
+            alloc,
+            ledger,
+            origin,
+            transaction,
+            ResultName::HookRejected,
+            records,
         ),
         ChainEnd::Kept {
             overlay,
