@@ -10,27 +10,15 @@ use Rattle.wa_ops.specs.declared.op.ValueType.{ValueType}
 use Rattle.wa_ops.specs.declared.op.ValueType.TheVariants.{I32, I64, F32, F64}
 use Rattle.wa_ops.specs.Callees.{Callee, guard, accept, rollback, host_call, takes, gives}
 use Rattle.wa_ops.specs.Contexts.{callee_of_row}
-use Rattle.wa_ops.specs.Rows.{ApiCall, api_calls, guard_row, if_listed, is_listed, row_answer, row_named, row_parameters}
+use Rattle.wa_ops.specs.Rows.{ApiCall, api_calls, guard_row, row_answer, row_named, row_parameters}
 use Rattle.wa_ops.specs.Typing.{is_same_type}
 
 -- a row that has a name is one of the table
 pub row_below : (name : List ℕ) (row : ℕ) → row_named name ≡ Some row → row ≤ 64
 unfolding row_named api_calls
-row_below name row e = at (position test api_calls) refl e
-  where
-    test : ApiCall → Bool
-    test call = bytes_eq call.name name
-
-    listed : (b : Bool) (found : ℕ) → position test api_calls ≡ Some found → (if b then Some found else None) ≡ Some row → row ≤ 64
-    listed true found p h =
-        let same : found ≡ row = cc h in
-        let within = position-Some test api_calls found (record { name = []; parameters = []; answer = I64 }) p in
-        omega (arith, within.0, same)
-    listed false found p h = absurd (cc h)
-
-    at : (o : Option ℕ) → position test api_calls ≡ o → if_listed o ≡ Some row → row ≤ 64
-    at None p h = absurd (cc h)
-    at (Some found) p h = listed (is_listed found) found p h
+row_below name row e =
+    let within = position-Some (λ call. bytes_eq call.name name) api_calls row (record { name = []; parameters = []; answer = I64 }) e in
+    omega (arith, within.0)
 
 -- a call takes what its row has, in order
 pub row_takes : (row : ℕ) → takes (callee_of_row (Some row)) ≡ reverse (row_parameters row)

@@ -111,17 +111,9 @@ accept_row = 1
 abbrev pub rollback_row : ℕ
 rollback_row = 2
 
--- the rows that a hook may import so far: all but `slot_set`, `slot_float` and `etxn_fee_base`
-abbrev pub is_listed : ℕ → Bool
-is_listed row = among 0 45 row || among 47 52 row || among 54 62 row || row == 64
-
-abbrev pub if_listed : Option ℕ → Option ℕ
-if_listed None = None
-if_listed (Some row) = if is_listed row then Some row else None
-
--- the listed row of this name
+-- the row of this name
 unfoldable pub row_named : List ℕ → Option ℕ
-row_named name = if_listed (position (λ call. bytes_eq call.name name) api_calls)
+row_named name = position (λ call. bytes_eq call.name name) api_calls
 
 unfoldable pub row_parameters : ℕ → List ValueType
 row_parameters row = option_map_or (λ call. call.parameters) (slice_get api_calls row) []

@@ -1,7 +1,7 @@
 ghost use Rattle.std.specs.Prelude.{◌≡◌, ◌≤◌, ◌<◌, IfSome, Some, length, map, option_map, slice_get};
 ghost use Rattle.std.specs.List.{position};
 ghost use Rattle.std.specs.Str.{bytes_eq};
-ghost use Rattle.wa_ops.specs.Rows.{is_listed as listed_row, row_answer, row_named, row_parameters, shown};
+ghost use Rattle.wa_ops.specs.Rows.{row_answer, row_named, row_parameters, shown};
 
 use crate::call_no::CallNo;
 use crate::op::ValueType;
@@ -79,13 +79,6 @@ const API_CALLS: [ApiCall; 65] = [
     ApiCall(b"emit", &[I32; 4], I64),
 ];
 
-/// Whether a hook may import the call in this row so far: here each new row of calls is listed.
-fn is_listed(row: usize) -> bool
-    ensures listed { result ≡ listed_row row }
-{
-    matches!(row, 0..=45 | 47..=52 | 54..=62 | 64)
-}
-
 /// The place of a name in a table of calls.
 fn place_of(calls: &[ApiCall], name: &[u8]) -> Option<usize>
     ensures place { result ≡ position (λ call. bytes_eq call.0.now name.now) calls.now }
@@ -102,18 +95,14 @@ fn call_at(calls: &[ApiCall], row: usize) -> ApiCall
     calls[row]
 }
 
-/// The row of the call with this name, where it is listed.
+/// The row of the call with this name.
 #[tactic(auto, unfolding(crate::specs::Rows::row_named, crate::specs::Rows::api_calls))]
 pub fn call_by_name(name: &[u8]) -> Option<CallNo>
     ensures row { row_named name.now ≡ option_map (λ number. number.0) result }
     ensures listed { IfSome result (λ number. number.0 ≤ 64) }
 {
     let row = place_of(&API_CALLS, name)?;
-    if is_listed(row) {
-        Some(CallNo(row as u8))
-    } else {
-        None
-    }
+    Some(CallNo(row as u8))
 }
 
 /// The types of the parameters of the call in this row.
