@@ -3,3 +3,8 @@ pub mod Giving
 pub mod Leading
 pub mod Hookless
 pub mod Written
+pub mod Coding
+pub mod Taken
+pub mod Walking
+pub mod Sizes
+pub mod Putting

@@ -3,7 +3,7 @@ use Rattle.std.specs.Prelude.{◌≡◌, ℕ, ◌==◌, nat_lt, ℤ, pos, Bool, 
 use Rattle.std.proofs.Common.{◌∙◌, ap, sym}
 use Rattle.hk_calls.specs.Answers.{changing}
 use Rattle.hk_calls.specs.Arguments.{narrow_at, pair_of}
-use Rattle.hk_calls.specs.Outputs.{Output, outcome, put}
+use Rattle.hk_calls.specs.Outputs.{Output, answering, outcome, put}
 use Rattle.hk_calls.specs.Outputs as outputs
 use Rattle.hk_calls.specs.Rules.{OrCode, ◌>>=◌}
 use Rattle.hk_calls.proofs.Lengths.{length_stays}
@@ -14,6 +14,7 @@ use Rattle.hk_api_parts.specs.declared.emitting.Emitting.{Emitting}
 use Rattle.hk_api_parts.specs.Emitting.{etxn_reserve, drawing}
 use Rattle.hk_api.specs.HostState.{HostState, StateWrite, with_write, with_chain, with_slots, with_emitting, with_emission}
 use Rattle.hk_api.specs.Emissions.{emit}
+use Rattle.hk_api.specs.Fee.{etxn_fee_base}
 use Rattle.hk_api.specs.Table.{Left, left, left_drawn, issuing, is_chain_row, chain_row, is_slot_row, slot_row, is_state_row, state_row, is_drawing_row, drawing_row, asking_row, api_row, Given, given, answers}
 
 abbrev pub ends : ℤ → List ℕ → HostState → Given
@@ -53,6 +54,9 @@ module _ (s : HostState) (row : ℕ) (a m : List ℕ) (P : Given → Type 0) (h 
       h.asked after.0 after.1 (sym (ap (λ o. length (outputs.given m o).1) e) ∙ length_stays a m row_gives)
   asking row_gives (Err code) e = refused _
 
+  answered : (row_gives : OrCode Output) → P (given s m (changing (λ memory. left memory s) (outcome a m row_gives)))
+  answered row_gives = asking row_gives (outcome a m row_gives) refl
+
   put_drawn : (r : Output × Emitting) (after : OrCode (ℤ × List ℕ)) → put m (pair_of a 0) r.0 ≡ after →
       P (given s m (changing (left_drawn s) (after >>= λ x. Ok (x.0, (x.1, r.1)))))
   put_drawn r (Ok after) e = h.counted after.0 after.1 r.1 (put_stays a m r.0 after.0 after.1 e)
@@ -77,8 +81,8 @@ module _ (s : HostState) (row : ℕ) (a m : List ℕ) (P : Given → Type 0) (h 
   chain_rows : P (given s m (changing (λ chain. left m (with_chain s chain)) (chain_row s row a m)))
   chain_rows = changed (with_chain s) (chain_row s row a m) (λ n x _. h.chain n x)
 
-  slot_rows : P (given s m (changing (λ slots. left m (with_slots s slots)) (slot_row s row a)))
-  slot_rows = changed (with_slots s) (slot_row s row a) (λ n x _. h.slots n x)
+  slot_rows : P (given s m (changing (λ slots. left m (with_slots s slots)) (slot_row s row a m)))
+  slot_rows = changed (with_slots s) (slot_row s row a m) (λ n x _. h.slots n x)
 
   state_rows : P (given s m (changing (λ w. left m (with_write s w)) (state_row s row a m)))
   state_rows = changed (with_write s) (state_row s row a m) h.state
@@ -86,25 +90,29 @@ module _ (s : HostState) (row : ℕ) (a m : List ℕ) (P : Given → Type 0) (h 
   reserve_row : P (given s m (changing (λ e. left m (with_emitting s e)) (etxn_reserve s.emitting (narrow_at a 0))))
   reserve_row = changed (with_emitting s) (etxn_reserve s.emitting (narrow_at a 0)) (λ n x _. h.counted n m x refl)
 
-  by_group : (chain slot state reserve drawing_one emission_one : Bool) → P (given s m (
+  by_group : (chain slot state reserve drawing_one fee emission_one : Bool) → P (given s m (
       if chain then changing (λ chain. left m (with_chain s chain)) (chain_row s row a m) else
-      if slot then changing (λ slots. left m (with_slots s slots)) (slot_row s row a) else
+      if slot then changing (λ slots. left m (with_slots s slots)) (slot_row s row a m) else
       if state then changing (λ w. left m (with_write s w)) (state_row s row a m) else
       if reserve then changing (λ e. left m (with_emitting s e)) (etxn_reserve s.emitting (narrow_at a 0)) else
       if drawing_one then changing (left_drawn s) (drawing m (pair_of a 0) (drawing_row s row a m)) else
+      if fee then changing (λ memory. left memory s) (outcome a m (answering (etxn_fee_base s m (pair_of a 0)))) else
       if emission_one then issuing s m (pair_of a 0) (emit s m (pair_of a 0) (pair_of a 2)) else
       changing (λ memory. left memory s) (outcome a m (asking_row s row a m))))
-  by_group true slot state reserve drawing_one emission_one = chain_rows
-  by_group false true state reserve drawing_one emission_one = slot_rows
-  by_group false false true reserve drawing_one emission_one = state_rows
-  by_group false false false true drawing_one emission_one = reserve_row
-  by_group false false false false true emission_one = drawn (drawing_row s row a m)
-  by_group false false false false false true = issued (emit s m (pair_of a 0) (pair_of a 2)) refl
-  by_group false false false false false false = asking (asking_row s row a m) (outcome a m (asking_row s row a m)) refl
+  by_group true slot state reserve drawing_one fee emission_one = chain_rows
+  by_group false true state reserve drawing_one fee emission_one = slot_rows
+  by_group false false true reserve drawing_one fee emission_one = state_rows
+  by_group false false false true drawing_one fee emission_one = reserve_row
+  by_group false false false false true fee emission_one = drawn (drawing_row s row a m)
+  by_group false false false false false true emission_one = answered (answering (etxn_fee_base s m (pair_of a 0)))
+  by_group false false false false false false true = issued (emit s m (pair_of a 0) (pair_of a 2)) refl
+  by_group false false false false false false false = answered (asking_row s row a m)
 
   rows : P (given s m (api_row s row a m))
   unfolding api_row
-  rows = by_group (is_chain_row row) (is_slot_row row) (is_state_row row) (row == 58) (is_drawing_row row) (row == 64)
+  rows =
+      by_group (is_chain_row row) (is_slot_row row) (is_state_row row) (row == 58) (is_drawing_row row) (row == 63)
+      (row == 64)
 
   by_number : (b : Bool) → P (given s m (if b then Ok (pos 0, left m s) else api_row s row a m))
   by_number true = refused (pos 0)

@@ -3,6 +3,10 @@ pub mod HostState
 pub mod States
 pub mod Hooks
 pub mod Emissions
+pub mod Fee
+pub mod Keylets
+pub mod Shown
+pub mod SlotSet
 pub mod Table
 pub mod Leads
 pub mod Ends

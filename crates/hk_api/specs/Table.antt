@@ -14,11 +14,13 @@ use Rattle.hk_api_parts.specs.declared.emitting.Emitting.{Emitting}
 use Rattle.hk_api_parts.specs.Settings.{fee_base, ledger_seq, ledger_last_time, ledger_last_hash, otxn_type, otxn_id, otxn_field, otxn_param, otxn_burden, otxn_generation}
 use Rattle.hk_api_parts.specs.Places.{hook_account, hook_pos}
 use Rattle.hk_api_parts.specs.Overrides.{hook_param_set}
-use Rattle.hk_api_parts.specs.SlotRows.{otxn_slot, slot, slot_clear, slot_count, slot_size, slot_subfield, slot_subarray, slot_type}
+use Rattle.hk_api_parts.specs.SlotRows.{otxn_slot, slot, slot_clear, slot_count, slot_size, slot_subfield, slot_subarray, slot_type, slot_float}
 use Rattle.hk_api_parts.specs.Emitting.{ledger_nonce, etxn_reserve, etxn_burden, etxn_generation, etxn_nonce, etxn_details, drawing}
 use Rattle.hk_api.specs.HostState.{HostState, StateWrite, with_write, with_chain, with_slots, with_emitting, with_emission}
 use Rattle.hk_api.specs.States.{state, state_set, state_foreign, state_foreign_set}
 use Rattle.hk_api.specs.Emissions.{emit}
+use Rattle.hk_api.specs.Fee.{etxn_fee_base}
+use Rattle.hk_api.specs.SlotSet.{slot_set}
 use Rattle.hk_api.specs.Hooks.{hook_hash, hook_param, hook_skip}
 
 -- the memory and the state
@@ -51,12 +53,13 @@ slot_asking_row s row a m =
     if row == 45 then slot s.slots m (pair_of a 0) (narrow_at a 2) else
     if row == 48 then answering (slot_count s.slots (narrow_at a 0)) else
     if row == 49 then answering (slot_size s.slots (narrow_at a 0)) else
-    answering (slot_type s.slots (narrow_at a 0) (narrow_at a 1))
+    if row == 52 then answering (slot_type s.slots (narrow_at a 0) (narrow_at a 1)) else
+    answering (slot_float s.slots (narrow_at a 0))
 
 unfoldable pub is_slot_asking_row : ℕ → Bool
-is_slot_asking_row row = row == 45 || row == 48 || row == 49 || row == 52
+is_slot_asking_row row = row == 45 || row == 48 || row == 49 || row == 52 || row == 53
 
--- other rows that change nothing; a row that isn't built answers 0
+-- other rows that change nothing; a number that is no row's answers 0
 unfoldable pub hook_row : HostState → ℕ → List ℕ → List ℕ → OrCode Output
 hook_row s row a m =
     if row == 32 then hook_account s.place m (pair_of a 0) else
@@ -87,11 +90,12 @@ chain_row s row a m =
 
 -- rows that change the slots
 unfoldable pub is_slot_row : ℕ → Bool
-is_slot_row row = row == 41 || row == 47 || row == 50 || row == 51
+is_slot_row row = row == 41 || row == 46 || row == 47 || row == 50 || row == 51
 
-unfoldable pub slot_row : HostState → ℕ → List ℕ → OrCode (ℤ × SlotMap)
-slot_row s row a =
+unfoldable pub slot_row : HostState → ℕ → List ℕ → List ℕ → OrCode (ℤ × SlotMap)
+slot_row s row a m =
     if row == 41 then otxn_slot s.slots s.setting (narrow_at a 0) else
+    if row == 46 then slot_set s m (pair_of a 0) (narrow_at a 2) else
     if row == 47 then slot_clear s.slots (narrow_at a 0) else
     if row == 50 then slot_subfield s.slots (narrow_at a 0) (narrow_at a 1) (narrow_at a 2) else
     slot_subarray s.slots (narrow_at a 0) (narrow_at a 1) (narrow_at a 2)
@@ -127,10 +131,11 @@ issuing s m write row = row >>= λ r. put m write r.0 >>= λ after. Ok (after.0,
 unfoldable pub api_row : HostState → ℕ → List ℕ → List ℕ → OrCode (ℤ × Left)
 api_row s row a m =
     if is_chain_row row then changing (λ chain. left m (with_chain s chain)) (chain_row s row a m) else
-    if is_slot_row row then changing (λ slots. left m (with_slots s slots)) (slot_row s row a) else
+    if is_slot_row row then changing (λ slots. left m (with_slots s slots)) (slot_row s row a m) else
     if is_state_row row then changing (λ w. left m (with_write s w)) (state_row s row a m) else
     if row == 58 then changing (λ e. left m (with_emitting s e)) (etxn_reserve s.emitting (narrow_at a 0)) else
     if is_drawing_row row then changing (left_drawn s) (drawing m (pair_of a 0) (drawing_row s row a m)) else
+    if row == 63 then changing (λ memory. left memory s) (outcome a m (answering (etxn_fee_base s m (pair_of a 0)))) else
     if row == 64 then issuing s m (pair_of a 0) (emit s m (pair_of a 0) (pair_of a 2)) else
     changing (λ memory. left memory s) (outcome a m (asking_row s row a m))
 

@@ -13,7 +13,6 @@ use hk_api_parts::{context_of, own_burden, use_up};
 use hk_base::{Hash256, NoMemory};
 use hk_calls::{Code, Pair, Refusal, inside, put_out, read, refuse};
 use hk_emit::{Emission, EmitContext, EmitFault, accept_emission, accepted_reads};
-use hk_state::needed_fee;
 use std::alloc::Global;
 use wa_num::Memory;
 
@@ -46,8 +45,7 @@ impl Api<'_> {
         ensures { result ≡
             nat_lt emission.now.transaction.fee (needed_fee self.now.before emission.now.transaction * burden) }
     {
-        let needed = needed_fee(self.ledger, &emission.transaction);
-        u128::from(emission.transaction.fee) < u128::from(needed) * u128::from(burden)
+        u128::from(emission.transaction.fee) < self.burdened(&emission.transaction, burden)
     }
 
     /// Whether no number is left for another emission.

@@ -3,9 +3,13 @@
 
 mod api;
 mod emission;
+mod fee;
 mod hooks;
 mod host;
+mod keylets;
 mod laws;
+mod shown;
+mod slot_set;
 mod state;
 mod table;
 

@@ -13,7 +13,7 @@ use hk_api_parts::{
     etxn_burden, etxn_details, etxn_generation, etxn_nonce, etxn_reserve, fee_base, hook_account,
     hook_param_set, hook_pos, ledger_last_hash, ledger_last_time, ledger_nonce, ledger_seq,
     otxn_burden, otxn_field, otxn_generation, otxn_id, otxn_param, otxn_slot, otxn_type, slot,
-    slot_clear, slot_count, slot_size, slot_subarray, slot_subfield, slot_type,
+    slot_clear, slot_count, slot_float, slot_size, slot_subarray, slot_subfield, slot_type,
 };
 use hk_calls::{Code, Refusal, narrow, pair_at};
 use wa_num::Memory;
@@ -34,7 +34,7 @@ impl Api<'_> {
             return self.chain_row(row, a, memory);
         }
         if is_slot_row(row) {
-            return self.slot_row(row, a);
+            return self.slot_row(row, a, memory);
         }
         if is_state_row(row) {
             return self.state_row(row, a, memory);
@@ -44,6 +44,9 @@ impl Api<'_> {
         }
         if is_drawing_row(row) {
             return self.drawing_row(row, a, memory);
+        }
+        if row == 63 {
+            return self.etxn_fee_base(memory, pair_at(a, 0));
         }
         if row == 64 {
             return self.emit(memory, pair_at(a, 0), pair_at(a, 2));
@@ -96,11 +99,12 @@ impl Api<'_> {
             45 => slot(&self.slots, memory, pair_at(a, 0), narrow(a, 2)),
             48 => slot_count(&self.slots, narrow(a, 0)),
             49 => slot_size(&self.slots, narrow(a, 0)),
-            _ => slot_type(&self.slots, narrow(a, 0), narrow(a, 1)),
+            52 => slot_type(&self.slots, narrow(a, 0), narrow(a, 1)),
+            _ => slot_float(&self.slots, narrow(a, 0)),
         }
     }
 
-    /// Other rows that change nothing. A row that isn't built answers 0.
+    /// Other rows that change nothing. A number that is no row's answers 0.
     #[tactic(auto, unfolding(crate::specs::Table::hook_row))]
     fn hook_row(&self, row: u8, a: &[u64], memory: &mut Memory) -> Result<i64, Code>
         ensures { Gave memory.old memory.new result
@@ -146,12 +150,13 @@ impl Api<'_> {
 
     /// Rows that change the slots.
     #[tactic(auto, unfolding(crate::specs::Table::slot_row))]
-    fn slot_row(&mut self, row: u8, a: &[u64]) -> Result<i64, Refusal>
+    fn slot_row(&mut self, row: u8, a: &[u64], memory: &Memory) -> Result<i64, Refusal>
         ensures { GaveUnless self.old self.new result
-            (changing (with_slots self.old) (table.slot_row self.old row a.now)) }
+            (changing (with_slots self.old) (table.slot_row self.old row a.now memory.now)) }
     {
         match row {
             41 => otxn_slot(&mut self.slots, self.setting, narrow(a, 0)),
+            46 => self.slot_set(memory, pair_at(a, 0), narrow(a, 2)),
             47 => Ok(slot_clear(&mut self.slots, narrow(a, 0))?),
             50 => Ok(slot_subfield(&mut self.slots, narrow(a, 0), narrow(a, 1), narrow(a, 2))?),
             _ => Ok(slot_subarray(&mut self.slots, narrow(a, 0), narrow(a, 1), narrow(a, 2))?),
@@ -204,7 +209,7 @@ fn is_setting_row(row: u8) -> bool
 fn is_slot_asking_row(row: u8) -> bool
     ensures { result ≡ table.is_slot_asking_row row }
 {
-    row == 45 || row == 48 || row == 49 || row == 52
+    row == 45 || row == 48 || row == 49 || row == 52 || row == 53
 }
 
 #[tactic(auto, unfolding(crate::specs::Table::is_chain_row))]
@@ -218,7 +223,7 @@ fn is_chain_row(row: u8) -> bool
 fn is_slot_row(row: u8) -> bool
     ensures { result ≡ table.is_slot_row row }
 {
-    row == 41 || row == 47 || row == 50 || row == 51
+    row == 41 || row == 46 || row == 47 || row == 50 || row == 51
 }
 
 #[tactic(auto, unfolding(crate::specs::Table::is_state_row))]
