@@ -1,5 +1,5 @@
 -- The fee for the code of a transaction's hooks is small: there are ten items at most, and a field's bytes are few.
-use Rattle.std.proofs.Common.{◌≡◌, ℕ, ◌+◌, ◌*◌, ◌≤◌, ◌<◌, ◌^◌, ◌==◌, Bool, true, false, List, [], ◌∷◌, length, refl, ap, arith, Option, Some, None}
+use Rattle.std.proofs.Common.{ℕ, ◌*◌, ◌≤◌, ◌<◌, ◌^◌, ◌==◌, Bool, true, false, List, [], ◌∷◌, length, refl, ap, arith, Option, Some, None}
 use Rattle.xo_fields.specs.declared.form.Form.TheVariants.{Blob}
 use Rattle.xo_list.specs.Item.{Item, lookup}
 use Rattle.xo_object.specs.declared.transaction.HookItem.{HookItem}

@@ -1,5 +1,5 @@
 -- All calls keep what the host's state must keep.
-use Rattle.std.proofs.Common.{◌≡◌, ℕ, ℤ, pos, ◌⊎◌, inl, inr, Bool, true, false, List, length, refl, sym, ap, subst, ◌∙◌, Ok, Err, Option, Some, None, ok_or, ◌+◌, ◌-◌, ◌*◌, ◌^◌, ◌<◌, ◌==◌, ◌&&◌, not, nat_lt, nat_le, arith, if◌then◌else◌}
+use Rattle.std.proofs.Common.{◌≡◌, ℕ, ℤ, pos, inl, Bool, true, false, List, length, refl, sym, ap, subst, ◌∙◌, Ok, Option, Some, None, ok_or, ◌+◌, ◌-◌, ◌*◌, ◌^◌, ◌<◌, ◌==◌, ◌&&◌, not, nat_lt, nat_le, arith, if◌then◌else◌}
 use Rattle.std.specs.FinMap.{get}
 use Rattle.std.proofs.lemmas.Bool.{ltb-true}
 use Rattle.hk_calls.specs.Arguments.{pair_of}
@@ -7,10 +7,9 @@ use Rattle.hk_calls.specs.declared.arguments.Pair.{Pair}
 use Rattle.hk_calls.specs.declared.code.Code.TheVariants as code
 use Rattle.hk_calls.specs.declared.code.Code.{Code}
 use Rattle.hk_calls.specs.Outputs.{Output, writes}
-use Rattle.hk_calls.specs.Rules.{OrCode, ◌>>=◌, ◌>>◌, refuse, inside, read, key}
+use Rattle.hk_calls.specs.Rules.{inside, read, key}
 use Rattle.hk_state.specs.declared.key.StateKey.{StateKey}
 use Rattle.hk_state.specs.Keys.{as_key}
-use Rattle.hk_draft.specs.Draft.{Draft, write_state}
 use Rattle.hk_emit.specs.declared.emission.Emission.{Emission}
 use Rattle.hk_emit.specs.Accepted.{accepted}
 use Rattle.hk_state.specs.Fees.{needed_fee}
@@ -25,8 +24,8 @@ use Rattle.hk_api_parts.specs.Emitting.{own_burden, context_of}
 use Rattle.hk_api.specs.Emissions.{emit}
 use Rattle.hk_api.specs.HostState.{HostState, StateWrite, with_write, with_chain, with_slots, with_emitting, with_emission}
 use Rattle.hk_api.specs.States.{own_key, foreign_key, owner_of, namespace_of, is_sized, may_write_at, stored, state_set, state_foreign_set, most_bytes, lacks_reserve, added_units}
-use Rattle.hk_api.specs.Table.{state_row, answers}
-use Rattle.hk_api.specs.Ends.{Holds, holds}
+use Rattle.hk_api.specs.Table.{state_row}
+use Rattle.hk_api.specs.Ends.{holds}
 use Rattle.hk_api.specs.Leads.{Leads, CallsLead}
 use Rattle.hk_calls.proofs.Walks.{Gives, gives_then, gives_after, gives_refuse}
 

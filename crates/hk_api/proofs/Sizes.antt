@@ -1,5 +1,5 @@
 -- How many bytes an object has.
-use Rattle.std.proofs.Common.{◌≡◌, ℕ, ◌+◌, ◌≤◌, ◌<◌, ◌^◌, Bool, true, false, List, [], ◌∷◌, ◌++◌, length, refl, arith, Option, Some, None, nat_lt, nat_le, if◌then◌else◌}
+use Rattle.std.proofs.Common.{◌≡◌, ℕ, ◌+◌, ◌≤◌, ◌<◌, ◌^◌, Bool, true, false, List, [], ◌∷◌, ◌++◌, length, arith, Option, Some, None, nat_lt, nat_le, if◌then◌else◌}
 use Rattle.std.proofs.lemmas.List.{length-append}
 use Rattle.xo_fields.specs.declared.field.FieldId.{FieldId}
 use Rattle.xo_fields.specs.declared.form.Form.{Form}
@@ -7,9 +7,9 @@ use Rattle.xo_fields.specs.declared.form.Form.TheVariants.{Fixed, Money, Blob, A
 use Rattle.xo_fields.specs.Form.{form_at}
 use Rattle.xo_fields.specs.Header.{header}
 use Rattle.xo_fields.specs.Length.{prefix}
-use Rattle.xo_list.specs.Item.{Item, body, body_of, spell}
+use Rattle.xo_list.specs.Item.{Item, body_of, spell}
 use Rattle.xo_object.specs.Names as names
-use Rattle.std.specs.Int.{w32, w64, to_be_bytes}
+use Rattle.std.specs.Int.{w32, to_be_bytes}
 use Rattle.hk_base.specs.declared.ids.AccountId.{AccountId}
 use Rattle.hk_base.specs.declared.ids.Hash256.{Hash256}
 use Rattle.xo_fields.specs.declared.amount.Amount.TheVariants.{Native}

@@ -1,5 +1,5 @@
 -- Walks over the entries of one kind, and over those of one account.
-use Rattle.std.proofs.Common.{◌≡◌, ◌∙◌, ℕ, ◌+◌, ◌-◌, ◌^◌, ◌<◌, min, sym, ap, refl, arith, Bool, true, false, ◌&&◌, if◌then◌else◌, List, [], ◌∷◌, length, Option}
+use Rattle.std.proofs.Common.{◌≡◌, ◌∙◌, ℕ, ◌+◌, ◌-◌, ◌^◌, ◌<◌, min, sym, ap, refl, arith, Bool, true, false, if◌then◌else◌, List, [], ◌∷◌, length, Option}
 use Rattle.std.specs.declared.cmp.Ordering.TheVariants.{Less}
 use Rattle.std.specs.List.{find}
 use Rattle.std.proofs.lemmas.Bool.{and_parts}
@@ -12,7 +12,7 @@ use Rattle.hk_state.specs.Entries.{Entries}
 use Rattle.hk_state.specs.Least.{Least, is_from}
 use Rattle.hk_state.specs.Reserves.{is_own}
 use Rattle.hk_state.proofs.Owned.{inside, and_last, but_last, together}
-use Rattle.hk_state.proofs.Walks.{run, passing, on_from, head_from, own_in}
+use Rattle.hk_state.proofs.Walks.{run, on_from, head_from, own_in}
 use Rattle.hk_api.specs.Keylets.{are_alike, is_of, has_index, listed, entry_at}
 
 alike_later : (start k q : Key) → is_from start k ≡ true → are_alike start k ≡ false → key_cmp k q ≡ Less →

@@ -1,5 +1,5 @@
 -- The host's state after a write of its overlay.
-use Rattle.std.proofs.Common.{◌≡◌, ℕ, List, [], ◌∷◌, refl, sym, ap, subst, ◌∙◌, Option, Some, None, Result, Ok, Err, OnOk, OnErr}
+use Rattle.std.proofs.Common.{◌≡◌, ℕ, List, [], ◌∷◌, refl, sym, ap, subst, ◌∙◌, Option, Some, Result, Ok, Err, OnOk, OnErr}
 use Rattle.hk_emit.specs.declared.emission.Emission.{Emission}
 use Rattle.hk_state.specs.declared.entry.Entry.{Entry}
 use Rattle.hk_state.specs.declared.entry.Entry.TheVariants as entry
@@ -8,7 +8,7 @@ use Rattle.hk_state.specs.declared.key.StateKey.{StateKey}
 use Rattle.hk_state.specs.Keys.{as_key}
 use Rattle.hk_state.specs.Entries.{Entries}
 use Rattle.hk_state.specs.Writes.{Writes, written, with_writes}
-use Rattle.hk_draft.specs.Draft.{Draft, change_to, write_state}
+use Rattle.hk_draft.specs.Draft.{change_to, write_state}
 use Rattle.hk_draft.specs.Drafted.{draft_of}
 use Rattle.hk_draft.proofs.Drafting.{write_draft}
 use Rattle.hk_api_parts.specs.declared.setting.Setting.{Setting}

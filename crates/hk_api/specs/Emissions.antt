@@ -1,5 +1,5 @@
 -- Row 64 of the table of calls: emissions (this project's own, after the XRPL Hooks).
-use Rattle.std.specs.Prelude.{ℕ, ◌+◌, ◌-◌, ◌*◌, ◌^◌, ◌==◌, nat_lt, nat_le, ℤ, List, length, ok_or, Ok, if◌then◌else◌}
+use Rattle.std.specs.Prelude.{ℕ, ◌+◌, ◌-◌, ◌*◌, ◌^◌, ◌==◌, nat_lt, nat_le, List, length, ok_or, Ok}
 use Rattle.hk_calls.specs.declared.arguments.Pair.{Pair}
 use Rattle.hk_calls.specs.declared.code.Code.TheVariants as code
 use Rattle.hk_calls.specs.Outputs.{Output, writes}

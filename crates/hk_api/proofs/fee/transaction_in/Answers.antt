@@ -1,4 +1,4 @@
-use Rattle.std.proofs.Common.{◌≡◌, ap, sym, ◌∙◌, ok_or}
+use Rattle.std.proofs.Common.{◌≡◌, ap, ◌∙◌, ok_or}
 use Rattle.hk_calls.specs.declared.code.Code.TheVariants as code
 use Rattle.hk_reading.proofs.OneReading.{at_some}
 use Rattle.hk_api.proofs.Taken.{none_read, sent_read, emitted_read}

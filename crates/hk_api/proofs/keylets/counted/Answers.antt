@@ -10,10 +10,11 @@ use Rattle.hk_api.proofs.keylets.counted.Goals as goal
 
 pub loop-next-init : goal.loop-next-init
 loop-next-init c =
-    let m = with_writes c.args.ledger.now.entries c.args.overlay.now in
-    (ap (λ es. min (c.args.before + length es) (2 ^ 32 - 1))
-    (sym (owned_from m c.args.first.now (option_map deref_pair c.least_from-next.result) c.least_from-next.ensures.least)),
-    omega (arith, c.well_formed))
+    let m = with_writes c.args.ledger.now.entries c.args.overlay.now in (
+      ap (λ es. min (c.args.before + length es) (2 ^ 32 - 1))
+          (sym (owned_from m c.args.first.now (option_map deref_pair c.least_from-next.result) c.least_from-next.ensures.least)),
+      omega (arith, c.well_formed),
+    )
 
 pub loop-next-smaller : goal.loop-next-smaller
 loop-next-smaller c =
