@@ -9,16 +9,21 @@ use Rattle.hk_lines.specs.declared.output_line.OutputLine.TheVariants.{FinalTota
 use Rattle.hk_lines.specs.declared.output_line.OutputLine.TheVariants as printed
 use Rattle.hk_final.specs.Final.{account_line, install_line, state_line, queued_line, in_order}
 use Rattle.hk_lines.specs.declared.rule.Rule.{Rule}
+use Rattle.hk_state.specs.declared.ledger.Header.{Header}
+use Rattle.hk_state.specs.Ledger.{LedgerValue, with_header}
 use Rattle.hk_state.specs.Balances.{balances, balances-empty, sum_new}
 use Rattle.hk_state.specs.Holdings.{holding_at}
 use Rattle.hk_base.specs.Rows.{first_row}
 use Rattle.hk_state.specs.Rows.{none_applies}
 use Rattle.hk_state.specs.Rules.{Rules}
 use Rattle.hk_draft.specs.Reads.{reads_emitted}
+use Rattle.hk_events.specs.Engine.{Engine}
 use Rattle.hk_events.specs.Events.{applied}
 use Rattle.hk_events.specs.Good.{IsGood}
 use Rattle.hk_events.specs.Lawful.{IsLawful}
+use Rattle.hk_events.specs.Settled.{due, opened, settled, settled_all}
 use Rattle.hk_events.proofs.Applying.{applied_law}
+use Rattle.hk_events.proofs.Settling.{settled_law}
 use Rattle.hk_engine.specs.Engine.{engine_of}
 use Rattle.hk_ledger.specs.Machine.{State, start, goes, opening_total, unless_broken, account_rules}
 use Rattle.hk_ledger.specs.Machine.{tx_line}
@@ -58,6 +63,19 @@ went : (found : Option Rule) (s : State) (shown whole : List OutputLine) (later 
 went None s shown whole later h = record { right = refl; rest = mapped (λ more. shown ++ more) (later s) whole h }
 went (Some rule) s shown whole later h = cc
 
+-- settlements keep the queue good, and all drops
+pub record SettledKept (e : Engine) (ledger now : LedgerValue) : Type 0 where
+  pub good : IsGood e.reads_emitted now
+  pub total : opening_total now ≡ opening_total ledger
+
+pub settled_kept : (e : Engine) (lawful : IsLawful e) (ns : List ℕ) (ledger : LedgerValue) → IsGood e.reads_emitted ledger →
+    SettledKept e ledger (settled_all e ledger ns).ledger
+settled_kept e lawful [] ledger good = record { good = good; total = refl }
+settled_kept e lawful (n ∷ ns) ledger good =
+    let holds = settled_law e ledger n lawful good in
+    let rest = settled_kept e lawful ns (settled e ledger n).ledger holds.good in
+    record { good = rest.good; total = rest.total ∙ holds.sum }
+
 module _ (rules : Rules) (lawful : IsLawful (engine_of rules)) where
   adds_up : (lines : List InputLine) (s : State) (shown : List OutputLine) → IsGood reads_emitted s.ledger →
       replayed rules s lines ≡ Some shown → AddsUp (opening_total s.ledger + opened_with lines) shown
@@ -73,8 +91,12 @@ module _ (rules : Rules) (lawful : IsLawful (engine_of rules)) where
       behind [] go.rest.from shown _ go.rest.to (subst (λ n. AddsUp n go.rest.from) total more)
   adds_up (Ledger seq time last_hash ∷ lines) s shown good h =
       let go = went _ _ _ shown (λ next. replayed rules next lines) h in
-      behind (printed.Ledger seq ∷ []) go.rest.from shown _ go.rest.to
-      (adds_up lines _ go.rest.from good go.rest.at)
+      let header : Header = record { seq = seq; time = time; last_hash = last_hash } in
+      let ledger = with_header s.ledger header in
+      let kept = settled_kept (engine_of rules) lawful (due ledger) ledger good in
+      behind (printed.Ledger seq ∷ (opened (engine_of rules) s.ledger header).lines) go.rest.from shown _ go.rest.to
+      (subst (λ n. AddsUp (n + opened_with lines) go.rest.from) kept.total
+      (adds_up lines _ go.rest.from kept.good go.rest.at))
   adds_up (Tx verdict blob ∷ lines) s shown good h =
       let go = went _ _ _ shown (λ next. replayed rules next lines) h in
       let event = applied (engine_of rules) s.ledger verdict blob in

@@ -53,7 +53,7 @@ SameDefinitions m n = (hash : Hash256) → get n (key.Definition hash) ≡ get m
 pub same_stay : (m n : Entries) → SameDefinitions m n → DefinitionsStay m n
 same_stay m n same hash x at = same hash ∙ at
 
-stay_further : (l m n : Entries) → DefinitionsStay l m → DefinitionsStay m n → DefinitionsStay l n
+pub stay_further : (l m n : Entries) → DefinitionsStay l m → DefinitionsStay m n → DefinitionsStay l n
 stay_further l m n one two hash x at = two hash x (one hash x at)
 
 pub stay_holding : (m : Entries) (id : AccountId) (balance sequence : ℕ) →
@@ -240,7 +240,7 @@ module _ (e : Engine) (lawful : IsLawful e) (before : Entries) (ledger : LedgerV
       (chains_fit e.reads_emitted ledger.header.seq before chain
       (lawful.chains ledger.header ledger.next before t) (sides t) (draft_on base)))
 
-  transaction_stay : (read : Reading) →
+  pub transaction_stay : (read : Reading) →
       DefinitionsStay ledger.entries (transaction e before ledger origin read).draft.entries
   transaction_stay readings.TooLong = λ hash x at. at
   transaction_stay readings.Unparsed = λ hash x at. at

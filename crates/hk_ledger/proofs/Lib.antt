@@ -2,6 +2,7 @@ pub mod Defining
 pub mod Whole
 pub mod Applied
 pub mod Entered
-pub mod Lined
+pub mod Settled
+pub mod Opening
 pub mod Conserving
 pub mod Units

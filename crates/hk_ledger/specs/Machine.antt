@@ -16,10 +16,11 @@ use Rattle.hk_ledger.specs.declared.replay.Stepped.{Stepped}
 use Rattle.hk_ledger.specs.declared.replay.Stepped.TheVariants.{Goes, Ends, Breaks}
 use Rattle.hk_state.specs.Holdings.{holding_at}
 use Rattle.hk_state.specs.Balances.{balances}
-use Rattle.hk_state.specs.Ledger.{LedgerValue, new_ledger, coded_ledger, with_header}
+use Rattle.hk_state.specs.Ledger.{LedgerValue, new_ledger, coded_ledger}
 use Rattle.hk_base.specs.Rows.{first_row}
 use Rattle.hk_state.specs.Rules.{Rules}
 use Rattle.hk_events.specs.Events.{Event, applied}
+use Rattle.hk_events.specs.Settled.{Opened, opened}
 use Rattle.hk_engine.specs.Engine.{engine_of}
 use Rattle.hk_final.specs.Final.{final_lines}
 use Rattle.hk_ledger.specs.World.{most_drops, with_account}
@@ -83,11 +84,15 @@ account_step s id balance sequence =
     unless_broken (first_row (account_rules s.ledger id balance))
     (goes (record s { ledger = with_account s.ledger id balance sequence }) [])
 
-abbrev pub ledger_step : State → ℕ → ℕ → Hash256 → Step
-ledger_step s seq time last_hash =
+-- a ledger is opened, and the lines of its settlements follow its own
+abbrev pub opens : State → ℕ → Opened → Step
+opens s seq after = goes (record s { ledger = after.ledger }) (printed.Ledger seq ∷ after.lines)
+
+abbrev pub ledger_step : Rules → State → ℕ → ℕ → Hash256 → Step
+ledger_step rules s seq time last_hash =
     unless_broken (first_row (ledger_rules s.ledger seq))
-    (goes (record s { ledger = with_header s.ledger (record { seq = seq; time = time; last_hash = last_hash }) })
-    (printed.Ledger seq ∷ []))
+    (opens s seq
+    (opened (engine_of rules) s.ledger (record { seq = seq; time = time; last_hash = last_hash })))
 
 abbrev pub tx_step : Rules → State → Verdict → List ℕ → Step
 tx_step rules s verdict blob =
@@ -96,7 +101,7 @@ tx_step rules s verdict blob =
 -- one line, by the rules for transactions; a `hook` line is no line of a replay
 abbrev pub step : Rules → State → InputLine → Step
 step rules s (Account id balance sequence) = account_step s id balance sequence
-step rules s (Ledger seq time last_hash) = ledger_step s seq time last_hash
+step rules s (Ledger seq time last_hash) = ledger_step rules s seq time last_hash
 step rules s (Tx verdict blob) = tx_step rules s verdict blob
 step rules s (Hook code) = breaks BadWord
 step rules s End = ends (final_lines s.ledger)

@@ -5,7 +5,7 @@ ghost use Rattle.hk_final.specs.Final.{final_lines};
 ghost use Rattle.hk_ledger.specs.Machine.{ends, IsInRange};
 ghost use Rattle.hk_ledger.specs.World.{most_drops};
 
-use crate::{OpenFault, Report, World, apply, open_account, open_ledger};
+use crate::{OpenFault, Report, World, apply, open_account, open_ledger, settle_due};
 use hk_base::{AccountId, Hash256, Items, NoMemory};
 use hk_lines::{InputLine, OutputLine, Rule, Verdict};
 use hk_state::Transactor;
@@ -74,15 +74,17 @@ impl Replay {
         }
     }
 
-    // A line that opens a ledger.
-    fn ledger(
+    // A line that opens a ledger: the emissions that are due then are settled.
+    fn ledger<T: Transactor>(
         &mut self,
         alloc: Global,
+        rules: &T,
         seq: u32,
         time: u32,
         last_hash: &Hash256,
     ) -> Result<Stepped, NoMemory>
-        ensures ok { IfOk result (λ stepped. Steps (ledger_step self.old seq time last_hash.now) self.new stepped) }
+        ensures ok { IfOk result (λ stepped.
+            Steps (ledger_step T.rules self.old seq time last_hash.now) self.new stepped) }
     {
         if seq <= self.world.ledger().header().seq {
             return Ok(Stepped::Breaks(Rule::BadOrder));
@@ -90,6 +92,7 @@ impl Replay {
         let mut lines = Items::new(alloc);
         lines.push(OutputLine::Ledger { seq })?;
         open_ledger(&mut self.world, seq, time, last_hash);
+        let lines = settle_due(alloc, &mut self.world, rules, lines)?;
         Ok(Stepped::Goes(lines))
     }
 
@@ -142,7 +145,7 @@ impl Replay {
                 seq,
                 time,
                 last_hash,
-            } => self.ledger(alloc, *seq, *time, last_hash),
+            } => self.ledger(alloc, rules, *seq, *time, last_hash),
             InputLine::Tx { verdict, blob } => self.transaction(
                 alloc,
                 rules,

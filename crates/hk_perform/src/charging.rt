@@ -14,7 +14,7 @@ use std::alloc::Global;
 use xo_object::Transaction;
 
 /// An overlay in which nothing is written, but that an emission has left the queue.
-pub(crate) fn begin(alloc: Global, origin: Origin) -> Result<Overlay, NoMemory>
+pub fn begin(alloc: Global, origin: Origin) -> Result<Overlay, NoMemory>
     ensures began { IfOk result (λ overlay. (ledger : LedgerValue) →
         draft_of ledger.entries overlay [] ≡ draft_on (found_by ledger origin).entries) }
 {

@@ -9,6 +9,8 @@ mod refusal;
 mod sides;
 mod transaction;
 
+pub use charging::begin;
 pub use origin::Origin;
 pub use performed::Performed;
+pub use sides::joined;
 pub use transaction::perform;

@@ -39,7 +39,7 @@ fn other_side(transaction: &Transaction) -> Option<AccountId>
 }
 
 /// Lines behind earlier ones.
-fn joined(
+pub fn joined(
     earlier: Items<OutputLine>,
     more: Items<OutputLine>,
 ) -> Result<Items<OutputLine>, NoMemory>

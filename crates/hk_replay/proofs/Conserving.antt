@@ -25,6 +25,8 @@ use Rattle.hk_ledger.specs.Replays.{Conserves, continued, replayed}
 use Rattle.hk_replay.specs.declared.command.Command.TheVariants.{Replay}
 use Rattle.hk_replay.specs.Conserved.{read_before, line_before, last_lines, cut_lines, input_lines, Conserved}
 use Rattle.hk_replay.specs.Moved.{Answered}
+use Rattle.hk_replay.specs.Told.{Told}
+use Rattle.hk_whole.specs.Laws.{AccountsFor, BoundsCounts}
 use Rattle.hk_replay.specs.Replaying.{texts, printed, replay_read, replay_turn}
 use Rattle.hk_lines.specs.Taken.{read_if}
 use Rattle.hk_replay.specs.Words.{is_replay_line}
@@ -155,17 +157,35 @@ sums law bytes text before now s wrote =
       sum = adds.sum;
     }
 
-conserved : Conserves native → (bytes : List ℕ) (before now : Option (List ℕ)) →
-    Answered Replay bytes Done before now → Conserved bytes before now
-conserved law bytes before now a =
-    sums law bytes a.text before now
-    (subst (λ t. Shows (replayed native start (input_lines bytes)) t) (sym a.given.0)
-    (cut_shows (cut (take longest_input bytes)) start 1 (close_of replay_turn longest_input bytes ended) a.given.1))
-    a.wrote
+-- a replay that is done shows what is printed for its lines
+done_shows : (bytes : List ℕ) (before now : Option (List ℕ)) (a : Answered Replay bytes Done before now) →
+    Shows (replayed native start (input_lines bytes)) a.text
+done_shows bytes before now a =
+    subst (λ t. Shows (replayed native start (input_lines bytes)) t) (sym a.given.0)
+    (cut_shows (cut (take longest_input bytes)) start 1 (close_of replay_turn longest_input bytes ended) a.given.1)
+
+done_answered : (bytes : List ℕ) (status : Status) (before now : Option (List ℕ)) → status ≡ Done →
+    (IsAnswer status → Answered Replay bytes status before now) → Answered Replay bytes Done before now
+done_answered bytes status before now is answered =
+    subst (λ s. Answered Replay bytes s before now) is (answered (subst IsAnswer (sym is) tt))
 
 pub done_conserved : Conserves native → (bytes : List ℕ) (status : Status) (before now : Option (List ℕ)) →
     status ≡ Done → (IsAnswer status → Answered Replay bytes status before now) →
     Conserved bytes before now
 done_conserved law bytes status before now is answered =
-    conserved law bytes before now
-    (subst (λ s. Answered Replay bytes s before now) is (answered (subst IsAnswer (sym is) tt)))
+    let a = done_answered bytes status before now is answered in
+    sums law bytes a.text before now (done_shows bytes before now a) a.wrote
+
+-- and what its lines tell
+pub done_told : BoundsCounts native → AccountsFor native → (bytes : List ℕ) (status : Status)
+    (before now : Option (List ℕ)) → status ≡ Done →
+    (IsAnswer status → Answered Replay bytes status before now) → Told before now
+done_told bounds accounts bytes status before now is answered =
+    let a = done_answered bytes status before now is answered in
+    let s = done_shows bytes before now a in
+    record {
+      lines = s.lines;
+      wrote = subst (λ t. Appends before now t) s.told a.wrote;
+      bounded = bounds (input_lines bytes) s.lines s.is;
+      accounts = accounts (input_lines bytes) s.lines s.is;
+    }

@@ -15,18 +15,22 @@ use Rattle.hk_lines.specs.declared.rule.Rule.{Rule}
 use Rattle.hk_lines.specs.declared.rule.Rule.TheVariants.{BadOrder, RepeatedAccount, Total}
 use Rattle.hk_lines.specs.declared.verdict.Verdict.{Verdict}
 use Rattle.hk_lines.specs.declared.output_line.OutputLine.{OutputLine}
+use Rattle.hk_state.specs.declared.entry.Entry.{Entry}
 use Rattle.hk_state.specs.declared.entry.Entry.TheVariants as entry
 use Rattle.hk_state.specs.declared.key.Key.TheVariants as key
 use Rattle.hk_state.specs.Balances.{balances-empty, sum_new}
 use Rattle.hk_state.specs.Holdings.{as_holding, holding_at, with_holding}
 use Rattle.hk_state.specs.Keys.{key_cmp, keys_total}
-use Rattle.hk_state.specs.Ledger.{LedgerValue}
+use Rattle.hk_state.specs.declared.ledger.Header.{Header}
+use Rattle.hk_state.specs.Ledger.{LedgerValue, with_header}
 use Rattle.hk_ledger.specs.Machine.{State, start, step, opening_total, account_rules, ledger_rules, tx_rules}
 use Rattle.hk_ledger.specs.Machine.{unless_broken, goes}
 use Rattle.hk_state.specs.Native.{native}
 use Rattle.hk_base.specs.Rows.{first_row}
 use Rattle.hk_state.specs.Rows.{none_applies}
+use Rattle.hk_events.specs.Engine.{Engine}
 use Rattle.hk_events.specs.Events.{applied}
+use Rattle.hk_events.specs.Settled.{due, opened, settled, settled_all, settled_entry}
 use Rattle.hk_engine.specs.Engine.{engine_of}
 use Rattle.hk_ledger.specs.World.{most_drops, with_account}
 use Rattle.hk_state.proofs.Told.{is_none}
@@ -141,6 +145,24 @@ tx_agrees order s verdict blob count a right =
       accounts = λ none. absurd (never none);
     }
 
+-- settlements leave the header
+entry_header : (e : Engine) (ledger : LedgerValue) (number : ℕ) (found : Option Entry) →
+    (settled_entry e ledger number found).ledger.header ≡ ledger.header
+entry_header e ledger number (Some (entry.Emitted blob hash first last callback)) = refl
+entry_header e ledger number None = refl
+entry_header e ledger number (Some other) = refl
+
+all_header : (e : Engine) (ns : List ℕ) (ledger : LedgerValue) → (settled_all e ledger ns).ledger.header ≡ ledger.header
+all_header e [] ledger = refl
+all_header e (n ∷ ns) ledger =
+    all_header e ns (settled e ledger n).ledger ∙ entry_header e ledger n (get ledger.entries (key.Emitted n))
+
+opened_header : (ledger : LedgerValue) (header : Header) →
+    (opened (engine_of native) ledger header).ledger.header.seq ≡ header.seq
+opened_header ledger header =
+    ap (λ (h : Header). h.seq)
+    (all_header (engine_of native) (due (with_header ledger header)) (with_header ledger header))
+
 ordered_same : (order : Order) (s : State) (line : InputLine) → Agrees order s →
     SameTurn Goes (turned replay_machine s (ordered order line)) (printed (step native s line))
 ordered_same order s (Account id balance sequence) a =
@@ -152,7 +174,7 @@ ordered_same order s (Ledger seq time last_hash) a =
     (record order { seq = seq }) (Ledger seq time last_hash) _ _
     (ap (λ n. first_row ((nat_le seq n, BadOrder) ∷ [])) a.seq) refl
     (λ right. record {
-      seq = refl;
+      seq = sym (opened_header s.ledger (record { seq = seq; time = time; last_hash = last_hash }));
       total = λ none. absurd (opened_seq seq s.ledger.header.seq right none);
       accounts = λ none. absurd (opened_seq seq s.ledger.header.seq right none);
     })

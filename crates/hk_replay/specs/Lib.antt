@@ -7,3 +7,4 @@ pub mod Answers
 pub mod Moved
 pub mod Conserved
 pub mod ReplayLines
+pub mod Told

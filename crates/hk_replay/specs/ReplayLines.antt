@@ -18,9 +18,9 @@ use Rattle.hk_final.specs.Final.{final_lines}
 use Rattle.hk_state.specs.Native.{native}
 use Rattle.hk_base.specs.Rows.{first_row}
 use Rattle.hk_events.specs.Events.{Event, applied}
+use Rattle.hk_events.specs.Settled.{Opened, opened}
 use Rattle.hk_engine.specs.Engine.{engine_of}
 use Rattle.hk_ledger.specs.World.{most_drops, with_account}
-use Rattle.hk_state.specs.Ledger.{with_header}
 use Rattle.hk_replay.specs.Replaying.{texts, replay_turn}
 use Rattle.hk_lines.specs.Taken.{read_if, rule_of}
 use Rattle.hk_replay.specs.Words.{is_replay_line}
@@ -89,13 +89,16 @@ after_event s event = (
   tx_line (s.count + 1) event.result event.fee ++ event.lines,
 )
 
+-- an opened ledger is left, and the lines of its settlements stand behind its own
+abbrev pub after_opening : State → ℕ → Opened → State × List OutputLine
+after_opening s seq after = (record s { ledger = after.ledger }, shown.Ledger seq ∷ after.lines)
+
 -- what a right line does and prints
 abbrev pub right_step : State → InputLine → State × List OutputLine
 right_step s (Account id balance sequence) = (record s { ledger = with_account s.ledger id balance sequence }, [])
-right_step s (Ledger seq time last_hash) = (
-  record s { ledger = with_header s.ledger (record { seq = seq; time = time; last_hash = last_hash }) },
-  shown.Ledger seq ∷ [],
-)
+right_step s (Ledger seq time last_hash) =
+    after_opening s seq
+    (opened (engine_of native) s.ledger (record { seq = seq; time = time; last_hash = last_hash }))
 right_step s (Tx verdict blob) = after_event s (applied (engine_of native) s.ledger verdict blob)
 right_step s other = (s, [])
 

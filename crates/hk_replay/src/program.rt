@@ -6,6 +6,7 @@ ghost use Rattle.hk_loop.specs.Causes.{HasCause};
 ghost use Rattle.hk_replay.specs.Answers.{command_of, Gives};
 ghost use Rattle.hk_replay.specs.Conserved.{Conserved};
 ghost use Rattle.hk_replay.specs.Moved.{Answered, Stops, TellsUsage};
+ghost use Rattle.hk_replay.specs.Told.{Told};
 
 use crate::command::{Command, command_of};
 use crate::hook::answer_hook;
@@ -44,6 +45,11 @@ pub fn top<S: Source, K: Sink>(
     // accounts.
     ensures conserved { result ≡ Status.Done → command_of (map string_bytes words.now) ≡ Command.Replay →
         (bytes : List ℕ) → S.left source.old ≡ Some bytes → Conserved bytes (K.written sink.old) (K.written sink.new) }
+
+    // Of a replay that is done: each count is at most the bound beside it, and each emission that was queued is settled
+    // once, in time, or waits at the end.
+    ensures told { result ≡ Status.Done → command_of (map string_bytes words.now) ≡ Command.Replay →
+        (bytes : List ℕ) → S.left source.old ≡ Some bytes → Told (K.written sink.old) (K.written sink.new) }
 
     // Words that are no command get the usage line, and nothing is taken.
     ensures usage { command_of (map string_bytes words.now) ≡ Command.Other →

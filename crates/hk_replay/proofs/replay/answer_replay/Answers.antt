@@ -1,4 +1,4 @@
-use Rattle.hk_replay.proofs.Conserving.{done_conserved}
+use Rattle.hk_replay.proofs.Conserving.{done_conserved, done_told}
 use Rattle.hk_replay.proofs.Stopping.{replay_answered, replay_stops}
 use Rattle.hk_replay.proofs.replay.answer_replay.Goals as goal
 
@@ -15,6 +15,13 @@ returns-clause-stops g c = λ bytes told.
 pub returns-clause-conserved : goal.returns-clause-conserved
 returns-clause-conserved g c = λ done bytes told.
     done_conserved c.conserves.ensures.law bytes c.go_through.result _ _ done
+    (λ answer.
+    replay_answered _ bytes c.go_through.result _ _ c.new-replaying.ensures.start
+    (c.go_through.ensures.answered answer bytes told))
+
+pub returns-clause-told : goal.returns-clause-told
+returns-clause-told g c = λ done bytes told.
+    done_told c.bounds_counts.ensures.law c.accounts_for_emissions.ensures.law bytes c.go_through.result _ _ done
     (λ answer.
     replay_answered _ bytes c.go_through.result _ _ c.new-replaying.ensures.start
     (c.go_through.ensures.answered answer bytes told))

@@ -1,0 +1,4 @@
+pub mod Due
+pub mod Waits
+pub mod Needs
+pub mod Meets

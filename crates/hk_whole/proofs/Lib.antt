@@ -1,0 +1,9 @@
+pub mod Queued
+pub mod Inner
+pub mod Passing
+pub mod Resting
+pub mod Ending
+pub mod Bounding
+pub mod Replaying
+pub mod Counting
+pub mod Accounting
