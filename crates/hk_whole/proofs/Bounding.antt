@@ -1,5 +1,6 @@
 -- The lines of events are of runs within their bounds, where the lines of chains and callbacks are.
-use Rattle.std.proofs.Common.{ℕ, ◌+◌, ◌==◌, Bool, true, false, if◌then◌else◌, nat_lt, List, [], ◌∷◌, ◌++◌, length, Option, Some, None}
+use Rattle.std.proofs.Common.{ℕ, ◌+◌, ◌==◌, Bool, true, false, if◌then◌else◌, nat_lt, List, [], ◌∷◌, ◌++◌, length}
+use Rattle.std.proofs.Common.{Option, Some, None}
 use Rattle.std.specs.FinMap.{get}
 use Rattle.hk_base.specs.declared.ids.AccountId.{AccountId}
 use Rattle.hk_base.specs.declared.ids.Hash256.{Hash256}
@@ -34,7 +35,8 @@ use Rattle.hk_events.specs.Lawful.{IsLawful}
 use Rattle.hk_events.specs.Performed.{after_items, after_rules, after_chains, unless_refused, transaction}
 use Rattle.hk_events.specs.Printed.{state_lines, emit_lines}
 use Rattle.hk_events.specs.Results.{Origin, refusal, paid, handed, emitted}
-use Rattle.hk_events.specs.Settled.{Waiting, Settled, Opened, without, expired, performed_as, settlement, argument, own_part, answered, called_back, settled_entry, settled, settled_all}
+use Rattle.hk_events.specs.Settled.{Waiting, Settled, Opened, without, expired, performed_as, settlement, argument}
+use Rattle.hk_events.specs.Settled.{own_part, answered, called_back, settled_entry, settled, settled_all}
 use Rattle.hk_events.proofs.Settling.{settled_law}
 use Rattle.hk_events.proofs.Staying.{stays_law}
 use Rattle.hk_whole.specs.Bounded.{IsBounded}

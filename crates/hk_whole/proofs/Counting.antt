@@ -1,10 +1,7 @@
 -- The counts that a replay prints are within their bounds.
-use Rattle.std.proofs.Common.{ℕ, List, ◌∷◌, ◌++◌}
-use Rattle.hk_base.specs.declared.ids.AccountId.{AccountId}
+use Rattle.std.proofs.Common.{List}
 use Rattle.hk_lines.specs.declared.output_line.OutputLine.{OutputLine}
 use Rattle.hk_lines.specs.declared.output_line.OutputLine.TheVariants as printed
-use Rattle.hk_lines.specs.declared.verdict.Verdict.{Verdict}
-use Rattle.hk_state.specs.declared.ledger.Header.{Header}
 use Rattle.hk_state.specs.Entries.{Entries}
 use Rattle.hk_state.specs.Holdings.{with_holding}
 use Rattle.hk_state.specs.Ledger.{LedgerValue, with_header}
@@ -27,14 +24,13 @@ use Rattle.hk_items.specs.Checks.{checked_in}
 use Rattle.hk_engine.specs.Engine.{engine_of, setting_of}
 use Rattle.hk_engine.specs.Laws.{CompleteStores}
 use Rattle.hk_final.specs.Final.{final_lines}
-use Rattle.hk_ledger.specs.Machine.{start, tx_line}
-use Rattle.hk_ledger.specs.World.{with_account}
+use Rattle.hk_ledger.specs.Machine.{start}
 use Rattle.hk_ledger.proofs.Whole.{new_whole, account_queued}
 use Rattle.hk_whole.specs.Bounded.{IsBounded}
 use Rattle.hk_whole.specs.Laws.{BoundsCounts}
 use Rattle.hk_whole.proofs.Bounding.{AreBounded, RunsBounded, applied_bounded, all_bounded}
 use Rattle.hk_whole.proofs.Ending.{IsFinal, all_final}
-use Rattle.hk_whole.proofs.Replaying.{whole_replay}
+use Rattle.hk_whole.proofs.Replaying.{ByAccount, ByLedger, ByTx, AtEnd, whole_replay}
 
 -- the lines of a complete ledger's runs
 has_bounded : (m : Entries) (line : OutputLine) → HasBound m line → IsBounded line
@@ -67,16 +63,13 @@ module _ (rules : Rules) (lawful : IsLawful (engine_of rules)) (careful : IsCare
   abbrev Bounds : LedgerValue → List OutputLine → Type 0
   Bounds ledger shown = IsGood reads_emitted ledger → IsComplete checked_in ledger.entries → AreBounded shown
 
-  account_bounds : (ledger : LedgerValue) (id : AccountId) (balance sequence : ℕ) (rest : List OutputLine) →
-      Bounds (with_account ledger id balance sequence) rest → Bounds ledger rest
+  account_bounds : ByAccount Bounds
   account_bounds ledger id balance sequence rest after good complete =
       after (account_queued ledger id balance sequence good)
       (complete_then checked_in ledger.entries (with_holding ledger.entries id balance sequence) complete
       (follows_holding checked_in ledger.entries id balance sequence))
 
-  opens_bounds : (ledger : LedgerValue) (header : Header) (rest : List OutputLine) →
-      Bounds (opened (engine_of rules) ledger header).ledger rest →
-      Bounds ledger (printed.Ledger header.seq ∷ ((opened (engine_of rules) ledger header).lines ++ rest))
+  opens_bounds : ByLedger rules Bounds
   opens_bounds ledger header rest after good complete =
       let now = with_header ledger header in
       let open_so = all_bounded (engine_of rules) lawful careful runs (due now) now good complete in (
@@ -85,21 +78,17 @@ module _ (rules : Rules) (lawful : IsLawful (engine_of rules)) (careful : IsCare
             (after open_so.good open_so.complete),
       )
 
-  applies_bounds : (ledger : LedgerValue) (number : ℕ) (verdict : Verdict) (blob : List ℕ) (rest : List OutputLine) →
-      Bounds (applied (engine_of rules) ledger verdict blob).ledger rest →
-      Bounds ledger ((tx_line number (applied (engine_of rules) ledger verdict blob).result
-      (applied (engine_of rules) ledger verdict blob).fee ++ (applied (engine_of rules) ledger verdict blob).lines)
-      ++ rest)
+  applies_bounds : ByTx rules Bounds
   applies_bounds ledger number verdict blob rest after good complete =
-      let event = applied (engine_of rules) ledger verdict blob in
-      let stays = stays_law (engine_of rules) ledger lawful careful good complete in (
+      let e = engine_of rules in
+      let stays = stays_law e ledger lawful careful good complete in
+      let lines = applied_bounded e ledger verdict blob (runs ledger.entries complete) in (
         tt,
-        each-append IsBounded event.lines rest
-            (applied_bounded (engine_of rules) ledger verdict blob (runs ledger.entries complete))
-            (after (applied_law (engine_of rules) ledger verdict blob lawful good).good (stays.applied_so verdict blob)),
+        each-append IsBounded (applied e ledger verdict blob).lines rest lines
+            (after (applied_law e ledger verdict blob lawful good).good (stays.applied_so verdict blob)),
       )
 
-  ends_bounds : (ledger : LedgerValue) → Bounds ledger (final_lines ledger)
+  ends_bounds : AtEnd Bounds
   ends_bounds ledger good complete = each-map IsFinal IsBounded final_bounded (final_lines ledger) (all_final ledger)
 
   pub bounds_counts : BoundsCounts rules

@@ -1,5 +1,6 @@
 -- What holds of the lines at the end.
-use Rattle.std.proofs.Common.{◌≡◌, ◌∙◌, ℕ, ◌+◌, cond, Bool, true, false, List, [], ◌∷◌, ◌++◌, refl, sym, subst, arith, Option, Some}
+use Rattle.std.proofs.Common.{◌≡◌, ◌∙◌, ℕ, ◌+◌, cond, Bool, true, false, List, [], ◌∷◌, ◌++◌, refl}
+use Rattle.std.proofs.Common.{sym, subst, arith, Option, Some}
 use Rattle.std.proofs.lemmas.List.Recursion.{is_count_by}
 use Rattle.std.specs.List.{AllByRecursion, count_by, flat_map}
 use Rattle.std.specs.FinMap.{get, entries}
@@ -18,9 +19,10 @@ use Rattle.hk_events.specs.Lists.{one_if, counted}
 use Rattle.hk_events.specs.Whole.{WaitsFor, is_emit, is_settled}
 use Rattle.hk_events.proofs.Words.{each-map, none_counted}
 use Rattle.hk_final.specs.Counted.{is_queued, QueueTold}
-use Rattle.hk_final.specs.Final.{account_line, install_line, state_line, queued_line, in_order, total_lines, final_lines}
+use Rattle.hk_final.specs.Final.{account_line, install_line, state_line, queued_line, in_order}
+use Rattle.hk_final.specs.Final.{total_lines, final_lines}
 use Rattle.hk_final.proofs.There.{each_entry}
-use Rattle.hk_whole.specs.Accounts.{AreInTime, AreCalled, IsAnnounced}
+use Rattle.hk_whole.specs.Accounts.{IsEmitted, AreAsEmitted, AreCalled}
 use Rattle.hk_whole.proofs.Passing.{IsTold}
 use Rattle.hk_whole.proofs.Resting.{Rests}
 
@@ -102,13 +104,6 @@ final_settles : (n : ℕ) (line : OutputLine) → IsFinal line → is_settled n 
 final_settles n (printed.Settled number word result fee) h = absurd h
 final_settles n other h = refl
 
-final_in_time : (shown : List OutputLine) (under : Option ℕ) (lines : List OutputLine) → Each IsFinal lines →
-    AreInTime shown under lines
-final_in_time shown under [] are = tt
-final_in_time shown under (printed.Ledger seq ∷ lines) are = absurd are.0
-final_in_time shown under (printed.Settled number word result fee ∷ lines) are = absurd are.0
-final_in_time shown under (line ∷ lines) are = final_in_time shown under lines are.1
-
 final_called : (may : Bool) (lines : List OutputLine) → Each IsFinal lines → AreCalled may lines
 final_called may [] are = tt
 final_called may (printed.Settled number word result fee ∷ lines) are = absurd are.0
@@ -128,28 +123,38 @@ counted_so test =
       | false ↦ omega arith
     ])
 
-plain_announced : (shown : List OutputLine) (line : OutputLine) → IsPlain line → IsAnnounced shown line
-plain_announced shown (printed.FinalQueued number first last) h = absurd h
-plain_announced shown other h = tt
+-- a line of the queue says what one of these `emit` lines says
+abbrev IsFinalOf : List OutputLine → OutputLine → Type 0
+IsFinalOf emits (printed.FinalQueued number first last) = IsEmitted emits number first last
+IsFinalOf emits line = IsPlain line
 
-module _ (shown : List OutputLine) (ledger : LedgerValue) (told : IsTold shown ledger.entries) where
-  queued_announced : (k : Key) (x : Entry) → get ledger.entries k ≡ Some x →
-      Each (IsAnnounced shown) (queued_line k x)
-  queued_announced (key.Emitted number) (entry.Emitted blob hash first last callback) at =
-      (told number first last (subst (WaitsFor first last) (sym at) (refl, refl)), tt)
-  queued_announced k x at = tt
+plain_of : (emits : List OutputLine) (line : OutputLine) → IsPlain line → IsFinalOf emits line
+plain_of emits (printed.FinalQueued number first last) h = absurd h
+plain_of emits line h = h
 
-  final_announced : Each (IsAnnounced shown) (final_lines ledger)
-  final_announced = final_each (IsAnnounced shown) (plain_announced shown) ledger queued_announced
+queued_of : (emits : List OutputLine) (ledger : LedgerValue) → IsTold emits ledger.entries → (k : Key) (x : Entry) →
+    get ledger.entries k ≡ Some x → Each (IsFinalOf emits) (queued_line k x)
+queued_of emits ledger told (key.Emitted number) (entry.Emitted blob hash first last callback) at =
+    (told number first last (subst (WaitsFor first last) (sym at) (refl, refl)), tt)
+queued_of emits ledger told k x at = tt
 
-pub final_rest : QueueTold → (shown : List OutputLine) (under : Option ℕ) (ledger : LedgerValue) →
-    Rests shown under ledger (final_lines ledger)
-final_rest queue_told shown under ledger =
+final_as_emitted : (emits : List OutputLine) (under : Option ℕ) (lines : List OutputLine) →
+    Each (IsFinalOf emits) lines → AreAsEmitted emits under lines
+final_as_emitted emits under [] are = tt
+final_as_emitted emits under (printed.Ledger seq ∷ lines) are = absurd are.0
+final_as_emitted emits under (printed.Emit number first last ∷ lines) are = absurd are.0
+final_as_emitted emits under (printed.Settled number word result fee ∷ lines) are = absurd are.0
+final_as_emitted emits under (printed.FinalQueued number first last ∷ lines) are =
+    (are.0, final_as_emitted emits under lines are.1)
+final_as_emitted emits under (line ∷ lines) are = final_as_emitted emits under lines are.1
+
+pub final_rest : QueueTold → (under : Option ℕ) (ledger : LedgerValue) → Rests under ledger (final_lines ledger)
+final_rest queue_told under ledger =
     let lines = final_lines ledger in
     let are = all_final ledger in
     let none : (n : ℕ) → counted (is_emit n) lines ≡ 0 =
-    (λ n. none_counted (is_emit n) lines (each-map IsFinal (λ line. is_emit n line ≡ false) (final_emits n) lines are))
-    in
+    (λ n.
+    none_counted (is_emit n) lines (each-map IsFinal (λ line. is_emit n line ≡ false) (final_emits n) lines are)) in
     record {
       once = λ n. let no = none n in omega (arith, no);
       low = λ n h. none n;
@@ -160,7 +165,8 @@ final_rest queue_told shown under ledger =
           (each-map IsFinal (λ line. is_settled n line ≡ false) (final_settles n) lines are) in
           let queue = counted_so (is_queued n) lines ∙ queue_told ledger n in
           omega (arith, no, settles, queue);
+      as_emitted = λ emits told.
+          final_as_emitted emits under lines
+          (final_each (IsFinalOf emits) (plain_of emits) ledger (queued_of emits ledger told));
       called = λ may. final_called may lines are;
-      in_time = λ told shown_so. final_in_time shown under lines are;
-      queued = λ told shown_so. final_announced shown ledger told;
     }

@@ -1,5 +1,6 @@
 -- The lines of what runs, is written and is emitted: they settle nothing, and tell of nothing at the end.
-use Rattle.std.proofs.Common.{◌≡◌, ℕ, ◌+◌, ◌⊎◌, inl, inr, Bool, true, false, List, [], ◌∷◌, ◌++◌, length, refl, ap, subst, arith, Option}
+use Rattle.std.proofs.Common.{◌≡◌, ℕ, ◌+◌, ◌⊎◌, inl, inr, Bool, true, false, List, [], ◌∷◌, ◌++◌, length}
+use Rattle.std.proofs.Common.{refl, ap, subst, arith, Option}
 use Rattle.hk_lines.specs.declared.output_line.OutputLine.{OutputLine}
 use Rattle.hk_lines.specs.declared.output_line.OutputLine.TheVariants as printed
 use Rattle.hk_emit.specs.declared.emission.Emission.{Emission}
@@ -16,7 +17,7 @@ use Rattle.hk_events.proofs.Queueing.{emit_lines-append}
 use Rattle.hk_events.proofs.Telling.{IsRecord, IsState, IsEmit, all_state, all_emit, kept_emit, records_emit}
 use Rattle.hk_events.proofs.Words.{counted-append, each-map, none_counted, some-front, some-behind}
 use Rattle.hk_final.specs.Counted.{is_queued}
-use Rattle.hk_whole.specs.Accounts.{IsEmitted, AreInTime, AreCalled, IsAnnounced}
+use Rattle.hk_whole.specs.Accounts.{IsEmitted, AreAsEmitted, AreCalled}
 
 abbrev pub IsInner : OutputLine → Type 0
 IsInner (printed.Hook account position outcome count bound) = Unit {0}
@@ -54,13 +55,6 @@ inner_queued n (printed.State account namespace k value) h = refl
 inner_queued n (printed.Emit number first last) h = refl
 inner_queued n other h = absurd h
 
-inner_announced : (shown : List OutputLine) (line : OutputLine) → IsInner line → IsAnnounced shown line
-inner_announced shown (printed.Hook account position outcome count bound) h = tt
-inner_announced shown (printed.Callback account position outcome count bound) h = tt
-inner_announced shown (printed.State account namespace k value) h = tt
-inner_announced shown (printed.Emit number first last) h = tt
-inner_announced shown other h = absurd h
-
 module _ (lines : List OutputLine) (inner : Each IsInner lines) where
   pub none_settled : (n : ℕ) → counted (is_settled n) lines ≡ 0
   none_settled n =
@@ -72,21 +66,41 @@ module _ (lines : List OutputLine) (inner : Each IsInner lines) where
       none_counted (is_queued n) lines
       (each-map IsInner (λ line. is_queued n line ≡ false) (inner_queued n) lines inner)
 
-  pub all_announced : (shown : List OutputLine) → Each (IsAnnounced shown) lines
-  all_announced shown = each-map IsInner (IsAnnounced shown) (inner_announced shown) lines inner
+-- `emit` lines of one list are in another
+abbrev pub AreIn : List OutputLine → List OutputLine → Type 0
+AreIn lines all = (n first last : ℕ) → IsEmitted lines n first last → IsEmitted all n first last
 
-pub in_time : (shown : List OutputLine) (ledger : Option ℕ) (lines rest : List OutputLine) → Each IsInner lines →
-    AreInTime shown ledger rest → AreInTime shown ledger (lines ++ rest)
-in_time shown ledger [] rest inner after = after
-in_time shown ledger (printed.Hook account position outcome count bound ∷ lines) rest inner after =
-    in_time shown ledger lines rest inner.1 after
-in_time shown ledger (printed.Callback account position outcome count bound ∷ lines) rest inner after =
-    in_time shown ledger lines rest inner.1 after
-in_time shown ledger (printed.State account namespace k value ∷ lines) rest inner after =
-    in_time shown ledger lines rest inner.1 after
-in_time shown ledger (printed.Emit number first last ∷ lines) rest inner after =
-    in_time shown ledger lines rest inner.1 after
-in_time shown ledger (other ∷ lines) rest inner after = absurd inner.0
+-- another line in front
+abbrev IsSilent : OutputLine → Type 0
+IsSilent line = (n first last : ℕ) → line ≡ printed.Emit n first last → ⊥
+
+front_in : (line : OutputLine) (lines all : List OutputLine) → IsSilent line → AreIn lines all →
+    AreIn (line ∷ lines) all
+front_in line lines all silent are n first last (inl here) = absurd (silent n first last here)
+front_in line lines all silent are n first last (inr later) = are n first last later
+
+-- what follows stands below these lines
+pub as_emitted : (ledger : Option ℕ) (lines rest : List OutputLine) → Each IsInner lines → (emits : List OutputLine) →
+    ((now : List OutputLine) → AreIn emits now → AreIn lines now → AreAsEmitted now ledger rest) →
+    AreAsEmitted emits ledger (lines ++ rest)
+as_emitted ledger [] rest inner emits after = after emits (λ n first last h. h) (λ n first last h. absurd h)
+as_emitted ledger (printed.Hook account position outcome count bound ∷ lines) rest inner emits after =
+    as_emitted ledger lines rest inner.1 emits (λ now were are.
+    after now were (front_in _ lines now (λ n first last bad. cc) are))
+as_emitted ledger (printed.Callback account position outcome count bound ∷ lines) rest inner emits after =
+    as_emitted ledger lines rest inner.1 emits (λ now were are.
+    after now were (front_in _ lines now (λ n first last bad. cc) are))
+as_emitted ledger (printed.State account namespace k value ∷ lines) rest inner emits after =
+    as_emitted ledger lines rest inner.1 emits (λ now were are.
+    after now were (front_in _ lines now (λ n first last bad. cc) are))
+as_emitted ledger (printed.Emit number from to ∷ lines) rest inner emits after =
+    as_emitted ledger lines rest inner.1 (printed.Emit number from to ∷ emits) (λ now were are.
+    after now (λ n first last h. were n first last (inr h)) (λ n first last h.
+    elim h as (λ _. IsEmitted now n first last) [
+      | inl here ↦ were n first last (inl here)
+      | inr later ↦ are n first last later
+    ]))
+as_emitted ledger (other ∷ lines) rest inner emits after = absurd inner.0
 
 -- ---- emissions, numbered from `next` on, with their lines
 
@@ -218,7 +232,8 @@ callback_called next d (other ∷ []) rest one fresh = absurd one
 callback_called next d (line ∷ other ∷ calls) rest one fresh = absurd one
 
 -- and where nothing is kept
-pub callback_alone : (calls rest : List OutputLine) → IsOneCallback calls → IsFresh rest → AreCalled true (calls ++ rest)
+pub callback_alone : (calls rest : List OutputLine) → IsOneCallback calls → IsFresh rest →
+    AreCalled true (calls ++ rest)
 callback_alone [] rest one fresh = fresh true
 callback_alone (printed.Callback account position outcome count bound ∷ []) rest one fresh = (refl, fresh false)
 callback_alone (other ∷ []) rest one fresh = absurd one

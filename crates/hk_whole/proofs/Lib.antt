@@ -1,6 +1,7 @@
 pub mod Queued
 pub mod Inner
 pub mod Passing
+pub mod Settlements
 pub mod Resting
 pub mod Ending
 pub mod Bounding

@@ -1,5 +1,6 @@
 -- What waits in the queue, as emissions enter it with their lines.
-use Rattle.std.proofs.Common.{◌≡◌, ◌∙◌, ℕ, ◌+◌, ◌<◌, ◌≤◌, ◌==◌, ◌⊎◌, inl, inr, Bool, true, false, cond, List, [], ◌∷◌, length, refl, sym, ap, subst, arith, Some, None}
+use Rattle.std.proofs.Common.{◌≡◌, ◌∙◌, ℕ, ◌+◌, ◌<◌, ◌≤◌, ◌==◌, ◌⊎◌, inl, inr, Bool, true, false, cond}
+use Rattle.std.proofs.Common.{List, [], ◌∷◌, length, refl, sym, ap, subst, arith, Some, None}
 use Rattle.std.proofs.lemmas.Bool.{eqb-true, ne_eqb, eq-eqb}
 use Rattle.std.specs.FinMap.{get, insert, get-insert}
 use Rattle.hk_lines.specs.declared.output_line.OutputLine.{OutputLine}
@@ -85,7 +86,8 @@ queue_windows next (e ∷ es) m n first last waits =
     elim (queue_windows (next + 1) es (more next e m) n first last waits)
     as (λ _. WaitsFor first last (get m (key.Emitted n)) ⊎ IsEmitted (emit_lines next (e ∷ es)) n first last) [
       | inl earlier ↦
-          more_windows next e m n first last (emit_lines (next + 1) es) (is_key (key.Emitted n) (key.Emitted next)) refl
+          let b = is_key (key.Emitted n) (key.Emitted next) in
+          more_windows next e m n first last (emit_lines (next + 1) es) b refl
           (subst (WaitsFor first last) (more_at next e m n) earlier)
       | inr later ↦ inr (inr later)
     ]
@@ -110,11 +112,14 @@ emits_high next (e ∷ es) n high =
     let rest = emits_high (next + 1) es n (omega (arith, high)) in
     omega (arith, here, rest)
 
+once_by : (next : ℕ) (es : List Emission) (n : ℕ) (b : Bool) → (next == n) ≡ b →
+    counted (is_emit n) (emit_lines (next + 1) es) ≤ 1 →
+    one_if b + counted (is_emit n) (emit_lines (next + 1) es) ≤ 1
+once_by next es n true is once =
+    let same = eqb-true next n is in
+    let none = emits_low (next + 1) es n (omega (arith, same)) in omega (arith, none)
+once_by next es n false is once = omega (arith, once)
+
 pub emits_once : (next : ℕ) (es : List Emission) (n : ℕ) → counted (is_emit n) (emit_lines next es) ≤ 1
 emits_once next [] n = omega arith
-emits_once next (e ∷ es) n = elim (next == n) as (λ b. (next == n) ≡ b → one_if b + counted (is_emit n) (emit_lines (next + 1) es) ≤ 1) [
-  | true ↦ λ is.
-      let same = eqb-true next n is in
-      let rest = emits_low (next + 1) es n (omega (arith, same)) in omega (arith, rest)
-  | false ↦ λ is. let rest = emits_once (next + 1) es n in omega (arith, rest)
-] refl
+emits_once next (e ∷ es) n = once_by next es n (next == n) refl (emits_once (next + 1) es n)

@@ -13,7 +13,7 @@ use Rattle.hk_state.specs.declared.ledger.Header.{Header}
 use Rattle.hk_state.specs.Ledger.{LedgerValue}
 use Rattle.hk_state.specs.Rules.{Rules}
 use Rattle.hk_final.specs.Final.{final_lines}
-use Rattle.hk_events.specs.Events.{applied}
+use Rattle.hk_events.specs.Events.{Event, applied}
 use Rattle.hk_events.specs.Settled.{opened}
 use Rattle.hk_engine.specs.Engine.{engine_of}
 use Rattle.hk_ledger.specs.Machine.{State, goes, unless_broken, account_rules, ledger_rules, tx_rules, tx_line}
@@ -33,17 +33,31 @@ module _ (P : List OutputLine → Type 0) (s : State) (shown : List OutputLine)
   goes_on None h = front_by (later s) refl h
   goes_on (Some rule) h = cc
 
-module _ (rules : Rules) (P : LedgerValue → List OutputLine → Type 0)
-    (account : (ledger : LedgerValue) (id : AccountId) (balance sequence : ℕ) (rest : List OutputLine) →
-    P (with_account ledger id balance sequence) rest → P ledger rest)
-    (opens : (ledger : LedgerValue) (header : Header) (rest : List OutputLine) →
+-- ---- what holds from a ledger on is led back over each line
+
+abbrev pub ByAccount : (LedgerValue → List OutputLine → Type 0) → Type 0
+ByAccount P = (ledger : LedgerValue) (id : AccountId) (balance sequence : ℕ) (rest : List OutputLine) →
+    P (with_account ledger id balance sequence) rest → P ledger rest
+
+abbrev pub ByLedger : Rules → (LedgerValue → List OutputLine → Type 0) → Type 0
+ByLedger rules P = (ledger : LedgerValue) (header : Header) (rest : List OutputLine) →
     P (opened (engine_of rules) ledger header).ledger rest →
-    P ledger (printed.Ledger header.seq ∷ ((opened (engine_of rules) ledger header).lines ++ rest)))
-    (applies : (ledger : LedgerValue) (number : ℕ) (verdict : Verdict) (blob : List ℕ) (rest : List OutputLine) →
+    P ledger (printed.Ledger header.seq ∷ ((opened (engine_of rules) ledger header).lines ++ rest))
+
+-- what is printed of a transaction with this number
+abbrev pub event_lines : ℕ → Event → List OutputLine
+event_lines number event = tx_line number event.result event.fee ++ event.lines
+
+abbrev pub ByTx : Rules → (LedgerValue → List OutputLine → Type 0) → Type 0
+ByTx rules P = (ledger : LedgerValue) (number : ℕ) (verdict : Verdict) (blob : List ℕ) (rest : List OutputLine) →
     P (applied (engine_of rules) ledger verdict blob).ledger rest →
-    P ledger ((tx_line number (applied (engine_of rules) ledger verdict blob).result
-    (applied (engine_of rules) ledger verdict blob).fee ++ (applied (engine_of rules) ledger verdict blob).lines) ++ rest))
-    (ends : (ledger : LedgerValue) → P ledger (final_lines ledger)) where
+    P ledger (event_lines number (applied (engine_of rules) ledger verdict blob) ++ rest)
+
+abbrev pub AtEnd : (LedgerValue → List OutputLine → Type 0) → Type 0
+AtEnd P = (ledger : LedgerValue) → P ledger (final_lines ledger)
+
+module _ (rules : Rules) (P : LedgerValue → List OutputLine → Type 0) (account : ByAccount P)
+    (opens : ByLedger rules P) (applies : ByTx rules P) (ends : AtEnd P) where
   pub whole_replay : (lines : List InputLine) (s : State) (shown : List OutputLine) →
       replayed rules s lines ≡ Some shown → P s.ledger shown
   whole_replay [] s shown h = cc
