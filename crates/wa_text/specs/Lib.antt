@@ -1,0 +1,6 @@
+pub mod Draft
+pub mod Instructions
+pub mod Lines
+pub mod Meaning
+pub mod Numbers
+pub mod Worked
