@@ -5,7 +5,7 @@
 #include "hook_api.h"
 
 /* The bytes of the payment that it emits, fields in order, and where in them it writes. */
-enum { FIRST = 10, LAST = 16, AMOUNT = 21, FEE = 30, ACCOUNT = 75, DESTINATION = 97, DETAILS = 117, SIZE = DETAILS + 138 };
+enum { FIRST = 10, LAST = 16, AMOUNT = 21, FEE = 30, ACCOUNT = 75, DESTINATION = 97, DETAILS = 117, SIZE = 255 };
 
 static uint8_t blob[SIZE] = {
     0x12, 0, 0,                               /* TransactionType: Payment */

@@ -15,13 +15,13 @@
 /* Every other function: a hook may not call its own functions, so they are written into it. */
 #define INLINE static inline __attribute__((always_inline))
 
-/* The guard. Each loop begins with `_g(id, limit)`, two constants: the call with one id may pass `limit` times in a run,
- * and ends the run where it would pass once more. As the first thing of a loop's condition it stays at the loop's head:
+/* The guard. Each loop begins with `_g(id, limit)`, two constants: the call with one id may pass `limit` times in a
+ * run, and ends the run where it would pass once more. In these two forms it stays at the loop's head:
  *
  *     for (uint32_t i = 0; _g(1, 21), i < 20; i++)    asks 21 times: limit 21 for 20 turns
  *     do { _g(1, 20); ... } while (++i < 20);         limit 20 for 20 turns
  *
- * `noduplicate` keeps the compiler from turning a loop round, copying it or peeling a turn off it. */
+ * `noduplicate` and `convergent` keep the compiler from turning a loop round, unrolling it and splitting it in two. */
 CALL(_g) __attribute__((noduplicate, convergent)) int32_t _g(uint32_t id, uint32_t limit);
 
 /* End the run: the transaction may go on, or is refused. They come back (with -1) only where the text lies outside the

@@ -1,6 +1,6 @@
 /* Hashes the transaction's id as many times as its parameter TURNS says (eight bytes), at least once. Before that it
- * keeps the number in the state LAST. Its guard lets four turns pass: a fifth ends the run, and nothing of it is kept. It
- * fires on Invoke. */
+ * keeps the number in the state LAST. Its guard lets four turns pass: a fifth ends the run, and nothing of it is kept.
+ * It fires on Invoke. */
 #include "hook_api.h"
 
 static uint8_t number[8], hash[32];

@@ -1,6 +1,6 @@
 /* refused loop guard 0 12
- * The guard isn't the first thing in the loop: the compiler stores the variable whose address is taken before it. A copy
- * of the variable, made in the loop, mends it: uint32_t key = i; state_set(own, 20, &key, 4). */
+ * The guard isn't the first thing in the loop: the compiler stores the variable whose address is taken before it. A
+ * copy of the variable, made in the loop, mends it: uint32_t key = i; state_set(own, 20, &key, 4). */
 #include "hook_api.h"
 
 static uint8_t own[20];
