@@ -123,7 +123,7 @@ def install(given):
     code = read(given.file)
     item = {
         CREATE_CODE: code,
-        API_VERSION: number(0, 2),
+        API_VERSION: number(given.api_version, 2),
         HOOK_ON: fires_on(given.on),
         NAMESPACE: given.namespace,
         PARAMETERS: parameters(given.parameter),
@@ -171,6 +171,7 @@ def hex_of(size):
             raise ValueError(word)
         return value
 
+    hex_value.__name__ = f"{2 * size} hex digits"
     return hex_value
 
 
@@ -213,9 +214,10 @@ def words():
             it.add_argument("--on", default=default, help="types on which it fires, as payment,invoke")
             space = bytes(32) if verb is install else None
             it.add_argument("--namespace", type=hex_of(32), default=space, help="of its state; zeros at first")
-            it.add_argument("--grant", type=grant, action="append", help=grant.__doc__ + " It may write the state")
+            it.add_argument("--grant", type=grant, action="append", help=grant.__doc__ + " That hook may write the state")
         if verb is install:
             it.add_argument("--replace", action="store_true", help="a hook that stands there is replaced")
+            it.add_argument("--api-version", type=int, default=0, choices=(0, 1), help="of the machine that runs it")
         if verb is update:
             it.add_argument("--no-grants", action="store_true", help="all grants are withdrawn")
     return reader
