@@ -1,7 +1,8 @@
 //! The hooks of an account, one after the other.
-ghost use Rattle.std.specs.Prelude.{◌≡◌, IfOk};
+ghost use Rattle.std.specs.Prelude.{◌≡◌, ◌+◌, ◌<◌, IfOk};
 ghost use Rattle.hk_draft.specs.Drafted.{draft_of};
 ghost use Rattle.hk_api.specs.Fits.{IsFit};
+ghost use Rattle.hk_state.specs.Installs.{IsNext};
 ghost use Rattle.hk_state.specs.Writes.{with_writes};
 ghost use Rattle.hk_chain.specs.Chain.{chain_of, hook_line, is_accepted, play_at};
 ghost use Rattle.hk_chain.specs.Meets.{EndMeans, IsPlay, PlayedFits, WorkFits, passing};
@@ -17,7 +18,7 @@ use hk_base::{AccountId, Items, NoMemory, Outcome};
 use hk_bound::Export;
 use hk_emit::Emission;
 use hk_lines::OutputLine;
-use hk_state::{Entry, Key, Ledger, Overlay, fires};
+use hk_state::{Entry, Ledger, Overlay, fires, install_at, next_install};
 use std::alloc::Global;
 
 /// The positions of an account's hooks.
@@ -53,8 +54,18 @@ pub fn run_chain(
         chain: no_chain(alloc),
     };
     let mut records = Items::new(alloc);
+    let mut installed = next_install(ledger, account, 0);
     for position in 0..POSITIONS {
-        match play(alloc, programs, ledger, setting, account, position, work)? {
+        match play(
+            alloc,
+            programs,
+            ledger,
+            setting,
+            account,
+            position,
+            &mut installed,
+            work,
+        )? {
             Played::Idle(next) => work = next,
             Played::Ran(next, run) => {
                 let accepted = is_accepted(&run.outcome);
@@ -78,7 +89,7 @@ pub fn run_chain(
     })
 }
 
-/// The turn of a position.
+/// The turn of a position, by where the next hook stands.
 #[tactic(auto, unfolding(crate::specs::Chain::play_at))]
 fn play(
     alloc: Global,
@@ -87,19 +98,23 @@ fn play(
     setting: &Setting,
     account: &AccountId,
     position: u8,
+    next: &mut Option<u8>,
     work: Work,
 ) -> Result<Played, NoMemory>
+    requires position { position < 255 }
+    requires next { IsNext ledger.now.entries account.now position next.old }
     requires fits { WorkFits setting.now ledger.now.entries work }
     requires stored { AreStored ledger.now.entries }
     requires held { AreOf ledger.now.entries programs.old }
     ensures held { AreOf ledger.now.entries programs.new }
     ensures stays { StayKept programs.old programs.new }
+    ensures next { IsNext ledger.now.entries account.now (position + 1) next.new }
     ensures played { IfOk result (IsPlay ledger.now.entries (passing ledger.now.entries work)
         (play_at setting.now ledger.now.next ledger.now.entries account.now position
         (passing ledger.now.entries work))) }
     ensures fits { IfOk result (PlayedFits setting.now ledger.now.entries) }
 {
-    match ledger.get(&Key::Install(*account, position)) {
+    match install_at(ledger, account, position, next) {
         Some(
             Entry::Install {
                 hash,

@@ -6,6 +6,7 @@ pub mod Told
 pub mod Leasts
 pub mod Walks
 pub mod Owned
+pub mod Installing
 pub mod Fits
 pub mod Listed
 pub mod Paid

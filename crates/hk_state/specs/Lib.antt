@@ -11,6 +11,7 @@ pub mod Balances
 pub mod Reserves
 pub mod Grants
 pub mod Firing
+pub mod Installs
 pub mod Fees
 pub mod Rows
 pub mod Rules

@@ -4,6 +4,7 @@ ghost use Rattle.std.specs.Option.{option_copied};
 ghost use Rattle.hk_state.specs.Fees.{needed_fee, chain_fee, destination_fee, code_fee, item_fee, bound_of, fired_bound};
 
 use crate::firing::fires;
+use crate::installs::{install_at, next_install};
 use crate::{Entry, Key, Ledger};
 use hk_base::AccountId;
 use xo_object::{HookItem, Transaction};
@@ -54,8 +55,13 @@ fn chain_fee(ledger: &Ledger, kind: u16, account: &AccountId) -> u64
     ensures fee { result ≡ chain_fee ledger.now.entries kind account.now }
 {
     let mut fee = 0;
+    let mut next = next_install(ledger, account, 0);
     for position in 0..POSITIONS {
-        fee += fired_bound(ledger, kind, ledger.get(&Key::Install(*account, position)));
+        fee += fired_bound(
+            ledger,
+            kind,
+            install_at(ledger, account, position, &mut next),
+        );
     }
     fee
 }

@@ -13,6 +13,7 @@ unfolding chain_of
 loop-position-init c = record {
   held = c.requires.held;
   stays = λ at held there. there;
+  next = c.next_install.ensures.next;
   fits = c.requires.fits;
   leads =
       ap₂ (λ chain lines. chain_from c.args.account.now
@@ -42,6 +43,7 @@ loop-position-preserved c =
       | in-Idle w ↦ record {
         held = c.play.ensures.held;
         stays = stay_further _ _ _ c.loop-position.invariant.stays c.play.ensures.stays;
+        next = c.play.ensures.next;
         fits =
             subst (λ work. WorkFits c.args.setting.now m work) (sym w.work-is)
             (subst (PlayedFits c.args.setting.now m) w.in-Idle.is c.in_ok-next.ensures.fits);
@@ -56,6 +58,7 @@ loop-position-preserved c =
       | in-Ran+in_ok-push-in-Ran+else-not-accepted w ↦ record {
         held = c.play.ensures.held;
         stays = stay_further _ _ _ c.loop-position.invariant.stays c.play.ensures.stays;
+        next = c.play.ensures.next;
         fits =
             subst (λ work. WorkFits c.args.setting.now m work) (sym w.work-is)
             (subst (PlayedFits c.args.setting.now m) w.in-Ran.is c.in_ok-next.ensures.fits);

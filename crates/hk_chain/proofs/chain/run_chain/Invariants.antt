@@ -1,5 +1,6 @@
 use Rattle.std.proofs.Common.{◌≡◌, ◌-◌}
 use Rattle.hk_state.specs.Fees.{positions}
+use Rattle.hk_state.specs.Installs.{IsNext}
 use Rattle.hk_draft.specs.Drafted.{draft_of}
 use Rattle.hk_chain.specs.Chain.{chain_from, chain_of, play_at}
 use Rattle.hk_chain.specs.Meets.{WorkFits, passing}
@@ -11,6 +12,7 @@ abbrev pub invariant-loop-position : goal.invariant-loop-position
 invariant-loop-position l = record {
   held : AreOf l.ledger.entries l.programs;
   stays : StayKept l.fn.programs l.programs;
+  next : IsNext l.ledger.entries l.account l.position l.installed;
   fits : WorkFits l.setting l.ledger.entries l.work;
   leads :
       chain_from l.account (play_at l.setting l.ledger.next l.ledger.entries l.account) (positions - l.position)
