@@ -1,5 +1,5 @@
 -- Words and an input have some text and some status.
-use Rattle.std.proofs.Common.{inl, inr, ℕ, List, Option, Some, None, refl, sym, subst, arith}
+use Rattle.std.proofs.Common.{inl, inr, ℕ, ◌≤◌, List, Option, Some, None, refl, sym, subst, arith}
 use Rattle.wa_exec.specs.Runs.{RunsWithin, named}
 use Rattle.hk_bound.specs.Checks.{Held, Holds, IsHeld}
 use Rattle.hk_bound.specs.declared.fault.Export.{Export}
@@ -20,34 +20,36 @@ use Rattle.hk_replay.proofs.Deciding.{held_verdict}
 use Rattle.hk_replay.specs.declared.command.Command.{Command}
 use Rattle.hk_replay.specs.declared.command.Command.TheVariants.{Hook, Replay, Other}
 use Rattle.hk_replay.specs.declared.command.Question.{Question}
-use Rattle.hk_replay.specs.declared.command.Question.TheVariants.{Check, Run}
-use Rattle.hk_replay.specs.Answers.{version, SomeAnswer, IsReply, Replies, GivesFor, hook_code}
+use Rattle.hk_replay.specs.declared.command.Task.{Task}
+use Rattle.hk_replay.specs.declared.command.Task.TheVariants.{Check, Run}
+use Rattle.hk_replay.specs.declared.command.Version.{Version}
+use Rattle.hk_replay.specs.declared.command.Version.TheVariants.{Zero, One}
+use Rattle.hk_replay.specs.Answers.{number, SomeAnswer, Accepts, IsReply, Replies, GivesFor, hook_code}
 use Rattle.hk_replay.specs.Answers.{hook_lines, replay_lines, usage_line, command_of}
 use Rattle.hk_replay.specs.HookLines.{hook_turn}
 use Rattle.hk_replay.specs.VerdictLines.{accepted_line, refused_line}
 use Rattle.hk_replay.specs.Verdicts.{HasVerdict}
 use Rattle.hk_replay.specs.Replaying.{replay_turn}
 
--- what is held of a code in this version is held in its own
-pub held_so : (code : List ℕ) (held : Held) → Holds version code held → IsHeld held
-held_so code held holds =
+-- what is held of a code in a version is held in its own
+pub held_so : (version : ℕ) (code : List ℕ) (held : Held) → Holds version code held → IsHeld held
+held_so version code held holds =
     record { code = code; holds = subst (λ own. Holds own code held) (sym holds.version_is) holds }
 
 -- each run of a hook has an ending
 abbrev pub EachRun : Type 0
 EachRun = (held : Held) → IsHeld held → (which : Export) → RunsWithin HostState held.wasm (named which)
 
--- a code has some answer
-some_reply : EachRun → (question : Question) (code : List ℕ) → HasVerdict version code →
-    (text : List ℕ) × (status : Status) × IsReply question code text status
-some_reply law Check code (inl (held, holds)) =
-    (accepted_line held, Done, record { held = held; holds = holds; line = refl })
-some_reply law Run code (inl (held, holds)) =
+-- an accepted code has some answer
+some_accepted : EachRun → (task : Task) (version : ℕ) (code : List ℕ) (held : Held) → Holds version code held →
+    (text : List ℕ) × Accepts task version code text
+some_accepted law Check version code held holds =
+    (accepted_line held, record { held = held; holds = holds; line = refl })
+some_accepted law Run version code held holds =
     let most =
-    law held (held_so code held holds) «export».Hook version hook_meaning 0 (alone.host code held) held.bound_hook
-    (omega arith) holds.bound_hook in (
+    law held (held_so version code held holds) «export».Hook version hook_meaning 0 (alone.host code held)
+    held.bound_hook (omega arith) holds.bound_hook in (
       line_text (printed.Run most.outcome most.count held.bound_hook),
-      Done,
       record {
         held = held;
         holds = holds;
@@ -58,19 +60,30 @@ some_reply law Run code (inl (held, holds)) =
         line = refl;
       },
     )
+
+-- a code has some answer
+some_reply : EachRun → (question : Question) (code : List ℕ) → HasVerdict (number question.version) code →
+    (text : List ℕ) × (status : Status) × IsReply question code text status
+some_reply law question code (inl (held, holds)) =
+    let some = some_accepted law question.task (number question.version) code held holds in (some.0, Done, some.1)
 some_reply law question code (inr (found, refused, named)) =
     (refused_line found, HookRefused, record { found = found; refused = refused; named = named; line = refl })
 
 -- so have lines
-some_replies : EachRun → (question : Question) (code shown : List ℕ) (status : Status) → HasVerdict version code →
+some_replies : EachRun → (question : Question) (code shown : List ℕ) (status : Status) →
+    HasVerdict (number question.version) code →
     (text : List ℕ) × (answer : Status) × Replies question code (Some status) shown text answer
 some_replies law question code shown Done verdict = some_reply law question code verdict
 some_replies law question code shown other verdict = (shown, other, (refl, refl))
 
+known : (version : Version) → number version ≤ 1
+known Zero = omega arith
+known One = omega arith
+
 some_for : EachRun → (command : Command) (bytes : List ℕ) →
     (text : List ℕ) × (status : Status) × GivesFor command bytes text status
 some_for law (Hook question) bytes =
-    let verdict = held_verdict version (hook_code bytes) (omega arith) in
+    let verdict = held_verdict (number question.version) (hook_code bytes) (known question.version) in
     let has : HasStatus (hook_lines bytes ended) = gives_status_law hook_turn longest_input None bytes in
     let some = some_replies law question (hook_code bytes) (hook_lines bytes ended).text has.0 verdict in
     let replies : Option Status → Type 0 =

@@ -21,8 +21,9 @@ use Rattle.hk_loop.specs.Answers.{IsAnswer}
 use Rattle.hk_replay.specs.declared.command.Command.{Command}
 use Rattle.hk_replay.specs.declared.command.Command.TheVariants.{Hook, Replay, Other}
 use Rattle.hk_replay.specs.declared.command.Question.{Question}
-use Rattle.hk_replay.specs.declared.command.Question.TheVariants.{Check, Run}
-use Rattle.hk_replay.specs.Answers.{version, IsAccepted, IsRunOf, IsRefusal, Accepts, IsReply, Replies}
+use Rattle.hk_replay.specs.declared.command.Task.{Task}
+use Rattle.hk_replay.specs.declared.command.Task.TheVariants.{Check, Run}
+use Rattle.hk_replay.specs.Answers.{number, IsAccepted, IsRunOf, IsRefusal, Accepts, IsReply, Replies}
 use Rattle.hk_replay.specs.Answers.{hook_code, hook_lines, replay_lines, GivesFor, command_of, IsSame, OneAnswer}
 use Rattle.hk_replay.specs.VerdictLines.{cbak_text, refused_line}
 use Rattle.hk_replay.specs.Moved.{Answered}
@@ -30,8 +31,9 @@ use Rattle.hk_bound.proofs.Verdicts.{one_refusal, holds_or_refused, one_module_h
 use Rattle.hk_bound.proofs.Verdicts.{one_cbak_bound}
 
 -- an accepted code has one line
-accepted_once : (code first second : List ℕ) → IsAccepted code first → IsAccepted code second → first ≡ second
-accepted_once code first second x y =
+accepted_once : (version : ℕ) (code first second : List ℕ) → IsAccepted version code first →
+    IsAccepted version code second → first ≡ second
+accepted_once version code first second x y =
     x.line
     ∙ ap (λ hash. line_of hash x.held.bound_hook x.held.bound_cbak)
     (one_hash version code x.held y.held x.holds y.holds)
@@ -46,8 +48,9 @@ accepted_once code first second x y =
           (hex_text hash.0 ++ (codes " hook " ++ (decimal bound ++ (codes " cbak " ++ (cbak_text cbak ++ 10 ∷ [])))))
 
 -- and its run has one
-run_once : OneEnding HostState → (code first second : List ℕ) → IsRunOf code first → IsRunOf code second → first ≡ second
-run_once law code first second x y =
+run_once : OneEnding HostState → (version : ℕ) (code first second : List ℕ) → IsRunOf version code first →
+    IsRunOf version code second → first ≡ second
+run_once law version code first second x y =
     let run =
     subst (λ m. IsRun hook_meaning m is_hook 0 (alone.host code x.held) x.outcome x.count x.after)
     (one_module_held version code x.held y.held x.holds y.holds) x.run in
@@ -64,31 +67,32 @@ run_once law code first second x y =
     (one_hook_bound version code x.held y.held x.holds y.holds)
     ∙ sym y.line
 
-accepts_once : OneEnding HostState → (question : Question) (code first second : List ℕ) → Accepts question code first →
-    Accepts question code second → first ≡ second
-accepts_once law Check code first second x y = accepted_once code first second x y
-accepts_once law Run code first second x y = run_once law code first second x y
+accepts_once : OneEnding HostState → (task : Task) (version : ℕ) (code first second : List ℕ) →
+    Accepts task version code first → Accepts task version code second → first ≡ second
+accepts_once law Check version code first second x y = accepted_once version code first second x y
+accepts_once law Run version code first second x y = run_once law version code first second x y
 
 -- a code is accepted or refused
-accepted_not_refused : (question : Question) (code first second : List ℕ) → Accepts question code first →
-    IsRefusal code second → ⊥
-accepted_not_refused Check code first second x y =
+accepted_not_refused : (task : Task) (version : ℕ) (code first second : List ℕ) → Accepts task version code first →
+    IsRefusal version code second → ⊥
+accepted_not_refused Check version code first second x y =
     holds_or_refused version code x.held y.found x.holds y.refused y.named
-accepted_not_refused Run code first second x y = holds_or_refused version code x.held y.found x.holds y.refused y.named
+accepted_not_refused Run version code first second x y =
+    holds_or_refused version code x.held y.found x.holds y.refused y.named
 
 -- a code has one answer
 one_reply : OneEnding HostState → (question : Question) (code first second : List ℕ) (status other : Status) →
     IsReply question code first status → IsReply question code second other →
     IsSame first second status other
 one_reply law question code first second Done Done x y =
-    record { text = accepts_once law question code first second x y; answer = refl }
+    record { text = accepts_once law question.task (number question.version) code first second x y; answer = refl }
 one_reply law question code first second Done HookRefused x y =
-    absurd (accepted_not_refused question code first second x y)
+    absurd (accepted_not_refused question.task (number question.version) code first second x y)
 one_reply law question code first second Done other x y = absurd y
 one_reply law question code first second HookRefused Done x y =
-    absurd (accepted_not_refused question code second first y x)
+    absurd (accepted_not_refused question.task (number question.version) code second first y x)
 one_reply law question code first second HookRefused HookRefused x y =
-    let same = one_refusal version code x.found y.found x.refused y.refused x.named y.named in
+    let same = one_refusal (number question.version) code x.found y.found x.refused y.refused x.named y.named in
     record { text = x.line ∙ ap refused_line same ∙ sym y.line; answer = refl }
 one_reply law question code first second HookRefused other x y = absurd y
 one_reply law question code first second status other x y = absurd x

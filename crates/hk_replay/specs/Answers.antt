@@ -22,36 +22,46 @@ use Rattle.hk_ledger.specs.Machine as machine
 use Rattle.hk_replay.specs.declared.command.Command.{Command}
 use Rattle.hk_replay.specs.declared.command.Command.TheVariants.{Hook, Replay, Other}
 use Rattle.hk_replay.specs.declared.command.Question.{Question}
-use Rattle.hk_replay.specs.declared.command.Question.TheVariants.{Check, Run}
+use Rattle.hk_replay.specs.declared.command.Task.{Task}
+use Rattle.hk_replay.specs.declared.command.Task.TheVariants.{Check, Run}
+use Rattle.hk_replay.specs.declared.command.Version.{Version}
+use Rattle.hk_replay.specs.declared.command.Version.TheVariants.{Zero, One}
 use Rattle.hk_replay.specs.HookLines.{hook_turn}
 use Rattle.hk_replay.specs.VerdictLines.{accepted_line, refused_line}
 use Rattle.hk_replay.specs.Replaying.{replay_turn}
 
+-- the command that does this with a hook's code, in this version of the machine
+abbrev pub hook : Task → Version → Command
+hook task version = Hook (record { task = task; version = version })
+
 -- the command that the words name
 abbrev pub command_of : List (List ℕ) → Command
 command_of (word ∷ []) =
-    if bytes_eq word (codes "check") then Hook Check
-    else if bytes_eq word (codes "run") then Hook Run
+    if bytes_eq word (codes "check") then hook Check Zero
+    else if bytes_eq word (codes "run") then hook Run Zero
+    else if bytes_eq word (codes "check1") then hook Check One
+    else if bytes_eq word (codes "run1") then hook Run One
     else if bytes_eq word (codes "replay") then Replay
     else Other
 command_of words = Other
 
 abbrev pub usage_line : List ℕ
-usage_line = codes "usage: hooks check | run | replay | demo N" ++ 10 ∷ []
+usage_line = codes "usage: hooks check | run | check1 | run1 | replay | demo N" ++ 10 ∷ []
 
--- the version of the machine in which `check` and `run` take a code
-abbrev pub version : ℕ
-version = 0
+-- the number of a version of the machine
+abbrev pub number : Version → ℕ
+number Zero = 0
+number One = 1
 
--- the code is accepted, and told so
-pub record IsAccepted (code text : List ℕ) : Type 0 where
+-- the code is accepted in a version, and told so
+pub record IsAccepted (version : ℕ) (code text : List ℕ) : Type 0 where
   pub held : Held
   pub holds : Holds version code held
   pub line : text ≡ accepted_line held
 
 -- the code is accepted, and the line is that of its `hook`, run with argument 0 to its end over the calls of hooks, on
 -- a ledger of its own
-pub record IsRunOf (code text : List ℕ) : Type 0 where
+pub record IsRunOf (version : ℕ) (code text : List ℕ) : Type 0 where
   pub held : Held
   pub holds : Holds version code held
   pub outcome : Outcome
@@ -62,26 +72,26 @@ pub record IsRunOf (code text : List ℕ) : Type 0 where
 
 -- a run's printed count is at most its printed bound
 abbrev pub PrintedCounts : Type 0
-PrintedCounts = (code text : List ℕ) (answer : IsRunOf code text) → answer.count ≤ answer.held.bound_hook
+PrintedCounts = (version : ℕ) (code text : List ℕ) (answer : IsRunOf version code text) → answer.count ≤ answer.held.bound_hook
 
--- the code is refused, and told so
-pub record IsRefusal (code text : List ℕ) : Type 0 where
+-- the code is refused in a version, and told so
+pub record IsRefusal (version : ℕ) (code text : List ℕ) : Type 0 where
   pub found : CheckFault
   pub refused : IsRefused version code found
   pub named : found ≢ fault.NoMemory
   pub line : text ≡ refused_line found
 
-abbrev pub Accepts : Question → List ℕ → List ℕ → Type 0
-Accepts Check code text = IsAccepted code text
-Accepts Run code text = IsRunOf code text
+abbrev pub Accepts : Task → ℕ → List ℕ → List ℕ → Type 0
+Accepts Check version code text = IsAccepted version code text
+Accepts Run version code text = IsRunOf version code text
 
 -- what a code is answered
 abbrev pub IsReply : Question → List ℕ → List ℕ → Status → Type 0
-IsReply question code text Done = Accepts question code text
-IsReply question code text HookRefused = IsRefusal code text
+IsReply question code text Done = Accepts question.task (number question.version) code text
+IsReply question code text HookRefused = IsRefusal (number question.version) code text
 IsReply question code text status = ⊥
 
--- the lines of `check` and `run`, which print nothing while they are right
+-- the lines of `check`, `run`, `check1` and `run1`, which print nothing while they are right
 abbrev pub hook_lines : List ℕ → Close → Given
 hook_lines bytes close = given hook_turn longest_input None bytes close
 

@@ -1,4 +1,4 @@
-//! The commands `check` and `run`.
+//! The commands `check`, `run`, `check1` and `run1`.
 ghost use Rattle.std.specs.Prelude.{◌≡◌, ◌≢◌, List, ℕ, Some};
 ghost use Rattle.hk_loop.specs.Answers.{IsAnswer};
 ghost use Rattle.hk_loop.specs.Causes.{HasCause, HasSinkCause};
@@ -13,7 +13,7 @@ use hk_lines::Status;
 use hk_loop::{go_through, write_answer};
 use std::alloc::Global;
 
-/// The commands `check` and `run`. Right lines print nothing, and then their code is answered.
+/// The commands `check`, `run`, `check1` and `run1`. Right lines print nothing, and then their code is answered.
 pub(crate) fn answer_hook<S: Source, K: Sink>(
     alloc: Global,
     question: Question,

@@ -21,7 +21,8 @@ use wa_exec::one_ending;
 /// The program, by its words, its input and its output.
 ///
 /// `check` reads one `hook` line and `end`, checks the hook's code, and prints its hash and bounds, or why it is
-/// refused. `run` runs an accepted code once with argument 0 besides, and prints the line of its ending.
+/// refused. `run` runs an accepted code once with argument 0 besides, and prints the line of its ending. `check1` and
+/// `run1` do the same in version 1 of the machine.
 /// `replay` reads accounts, ledgers and transactions up to `end`, and prints what each of them does, and at the end
 /// all accounts.
 /// All other words print the usage line.
@@ -73,7 +74,7 @@ pub fn top<S: Source, K: Sink>(
         Command::Replay => answer_replay(alloc, source, sink),
         Command::Other => write_answer(
             sink,
-            b"usage: hooks check | run | replay | demo N\n",
+            b"usage: hooks check | run | check1 | run1 | replay | demo N\n",
             Status::Usage,
         ),
     }

@@ -1,15 +1,15 @@
 //! What a code is answered.
-ghost use Rattle.std.specs.Prelude.{◌≡◌, IfOk};
+ghost use Rattle.std.specs.Prelude.{◌≡◌, ℕ, IfOk};
 ghost use Rattle.hk_bound.specs.Checks.{Holds};
 ghost use Rattle.hk_lines.specs.OutputForms.{line_text};
 ghost use Rattle.hk_lines.specs.declared.output_line.OutputLine.TheVariants as printed;
-ghost use Rattle.hk_replay.specs.Answers.{IsReply, IsRunOf, Accepts, version};
+ghost use Rattle.hk_replay.specs.Answers.{IsReply, IsRunOf, Accepts};
 
-use crate::command::Question;
+use crate::command::{Question, Task};
 use crate::verdict::{accepted_line, refused_line};
 use hk_alone::run_alone;
 use hk_base::NoMemory;
-use hk_bound::{CheckFault, Checked, check};
+use hk_bound::{CheckFault, Checked, check_at};
 use hk_lines::{OutputLine, Status, print_line};
 use std::alloc::{AllocError, Global};
 use wa_exec::Ended;
@@ -21,14 +21,14 @@ pub(crate) struct Reply {
     pub(crate) status: Status,
 }
 
-/// What a code is answered: it is checked, and where it is to be run and is accepted, its `hook` is run once with
+/// What a code is answered: it is checked in the question's version of the machine, and where it is to be run and is accepted, its `hook` is run once with
 /// argument 0.
 pub(crate) fn reply_to(alloc: Global, question: Question, code: &[u8]) -> Result<Reply, NoMemory>
     ensures reply { IfOk result (λ reply. IsReply question code.now reply.text.items reply.status) }
 {
-    match check(alloc, code) {
+    match check_at(alloc, code, question.version.number()) {
         Ok(checked) => {
-            let text = accepted(alloc, question, code, &checked)?;
+            let text = accepted(alloc, question.task, code, &checked)?;
             Ok(Reply {
                 text,
                 status: Status::Done,
@@ -47,26 +47,23 @@ pub(crate) fn reply_to(alloc: Global, question: Question, code: &[u8]) -> Result
 }
 
 // What an accepted code is answered.
-fn accepted(
-    alloc: Global,
-    question: Question,
-    code: &[u8],
-    checked: &Checked,
-) -> Result<Vec<u8>, NoMemory>
-    ensures accepts { IfOk result (λ text. Holds version code.now checked.now → Accepts question code.now text.items) }
+fn accepted(alloc: Global, task: Task, code: &[u8], checked: &Checked) -> Result<Vec<u8>, NoMemory>
+    ensures accepts { IfOk result (λ text. (version : ℕ) → Holds version code.now checked.now →
+        Accepts task version code.now text.items) }
 {
-    match question {
-        Question::Check => {
+    match task {
+        Task::Check => {
             let line = accepted_line(alloc, checked)?;
             Vec::from_slice(alloc, line.as_bytes())
         }
-        Question::Run => run_to_end(alloc, code, checked),
+        Task::Run => run_to_end(alloc, code, checked),
     }
 }
 
 // Runs `hook` with argument 0, and answers the line of its ending.
 fn run_to_end(alloc: Global, code: &[u8], checked: &Checked) -> Result<Vec<u8>, NoMemory>
-    ensures line { IfOk result (λ text. Holds version code.now checked.now → IsRunOf code.now text.items) }
+    ensures line { IfOk result (λ text. (version : ℕ) → Holds version code.now checked.now →
+        IsRunOf version code.now text.items) }
 {
     let ended = run_alone(alloc, checked, code)?;
     let bound = checked.bound_hook();

@@ -13,7 +13,7 @@ unfolding chain_of
 loop-position-init c = record {
   held = c.requires.held;
   stays = λ at held there. there;
-  next = c.next_install.ensures.next;
+  next = c.next_install-installed.ensures.next;
   fits = c.requires.fits;
   leads =
       ap₂ (λ chain lines. chain_from c.args.account.now

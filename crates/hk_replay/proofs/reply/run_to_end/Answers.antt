@@ -7,7 +7,7 @@ use Rattle.hk_replay.proofs.reply.run_to_end.Goals as goal
 pub returns : goal.returns
 returns c = record {
   line =
-      if_ok c.run_line.result _ _ (λ text is. λ holds. record {
+      if_ok c.run_line.result _ _ (λ text is. λ version holds. record {
         held = c.args.checked.now;
         holds = holds;
         outcome = c.in_ok-ended.ended.outcome;
