@@ -1,4 +1,5 @@
 pub mod Draft
+pub mod Fitting
 pub mod Instructions
 pub mod Lines
 pub mod Meaning

@@ -1,6 +1,7 @@
 -- The module that a text means (this project's own).
 use Rattle.std.specs.Prelude.{◌≡◌, ℕ, ◌+◌, ◌==◌, List, [], ◌∷◌, Result, Ok, Err, if◌then◌else◌}
 use Rattle.wa_ops.specs.declared.modules.Module.{Module}
+use Rattle.wa_decode.specs.Modules.{Spells}
 use Rattle.hk_lines.specs.Cut.{Cut, behind, whole, cut}
 use Rattle.wa_encode.specs.Modules.{encoded}
 use Rattle.wa_text.specs.declared.fault.AsmFault.{AsmFault}
@@ -52,3 +53,7 @@ IsFault found NoMemory = Unit {0}
 -- the text means a module with these bytes
 abbrev pub MeansBytes : Meaning → List ℕ → Type 0
 MeansBytes found bytes = (m : Module) × (found ≡ means m) × (bytes ≡ encoded m)
+
+-- the text means a module that these bytes spell
+abbrev pub MeansSpelled : Meaning → List ℕ → Type 0
+MeansSpelled found bytes = (m : Module) × (found ≡ means m) × Spells m bytes

@@ -5,7 +5,7 @@ ghost use Rattle.hk_lines.specs.Cut.{behind, cut, whole};
 ghost use Rattle.wa_encode.specs.Modules.{encoded};
 ghost use Rattle.wa_text.specs.Draft.{Turned};
 ghost use Rattle.wa_text.specs.Lines as lines;
-ghost use Rattle.wa_text.specs.Meaning.{IsFault, MeansBytes, line_step, meaning, means};
+ghost use Rattle.wa_text.specs.Meaning.{IsFault, MeansBytes, MeansSpelled, line_step, meaning, means};
 
 use crate::draft::{Draft, Turn};
 use crate::fault::AsmFault;
@@ -24,6 +24,7 @@ use wa_ops::{Module, NoMemory};
 pub fn assemble(alloc: Global, text: &[u8]) -> Result<Vec<u8>, AsmFault>
     requires size { length text.now ≤ 1048576 }
     ensures ok { IfOk result (λ bytes. MeansBytes (meaning text.now) bytes.items) }
+    ensures spells { IfOk result (λ bytes. MeansSpelled (meaning text.now) bytes.items) }
     ensures err { IfErr result (λ fault. IsFault (meaning text.now) fault) }
 {
     let module = read_module(alloc, text)?;

@@ -16,7 +16,7 @@ mod words;
 pub use assembling::{assemble, read_module};
 pub use draft::{Body, Draft, Part, Turn};
 pub use fault::{AsmFault, AsmRule};
-pub use laws::worked_texts;
+pub use laws::{assembled_fits, assembled_spells, worked_texts};
 pub use lines::read_text_line;
 pub use regions::Regions;
 pub use text_line::{Constant, TextLine};
