@@ -1,0 +1,4 @@
+pub mod Codes
+pub mod Blobs
+pub mod DemoLines
+pub mod Summary
