@@ -19,7 +19,7 @@ use Rattle.hk_lines.specs.declared.status.Status.{Status}
 use Rattle.hk_lines.specs.declared.status.Status.TheVariants.{Done, ReadFault, WriteFault, NoMemory, HookRefused}
 use Rattle.hk_loop.specs.Answers.{IsAnswer}
 use Rattle.hk_replay.specs.declared.command.Command.{Command}
-use Rattle.hk_replay.specs.declared.command.Command.TheVariants.{Hook, Replay, Other}
+use Rattle.hk_replay.specs.declared.command.Command.TheVariants.{Hook, Replay, Demo, Other}
 use Rattle.hk_replay.specs.declared.command.Question.{Question}
 use Rattle.hk_replay.specs.declared.command.Task.{Task}
 use Rattle.hk_replay.specs.declared.command.Task.TheVariants.{Check, Run}
@@ -119,6 +119,8 @@ one_for law (Hook question) bytes first second status other x y =
     (hook_lines bytes ended).text first second status other x y
 one_for law Replay bytes first second status other x y =
     record { text = x.0 ∙ sym y.0; answer = same_status (replay_lines bytes ended).status status other x.1 y.1 }
+one_for law (Demo payments) bytes first second status other x y =
+    record { text = x.0 ∙ sym y.0; answer = x.1 ∙ sym y.1 }
 one_for law Other bytes first second status other x y = record { text = x.0 ∙ sym y.0; answer = x.1 ∙ sym y.1 }
 
 pub one_answer : OneEnding HostState → OneAnswer

@@ -2,6 +2,7 @@
 use Rattle.std.proofs.Common.{◌≡◌, ◌≢◌, ℕ, ◌⊎◌, inl, inr, List, [], ◌∷◌, ◌++◌, length, Option, Some, None, ap, sym}
 use Rattle.std.proofs.Common.{subst, ◌∙◌, refl, arith, append-nil, length-append}
 use Rattle.std.specs.Io.KnownBytes.{Appends}
+use Rattle.std.proofs.KnownBytes.{Appends-nil}
 use Rattle.hk_lines.specs.Given.{Close, opened, ended, Given, gives, IsFront}
 use Rattle.hk_lines.specs.Numbers.{longest_input}
 use Rattle.hk_lines.specs.Reached.{reached}
@@ -14,7 +15,7 @@ use Rattle.hk_loop.proofs.Exits.{wrote_front}
 use Rattle.hk_loop.proofs.Moves.{writes_more}
 use Rattle.hk_ledger.specs.Machine as machine
 use Rattle.hk_replay.specs.declared.command.Command.{Command}
-use Rattle.hk_replay.specs.declared.command.Command.TheVariants.{Hook, Replay, Other}
+use Rattle.hk_replay.specs.declared.command.Command.TheVariants.{Hook, Replay, Demo, Other}
 use Rattle.hk_replay.specs.declared.command.Question.{Question}
 use Rattle.hk_replay.specs.HookLines.{hook_turn}
 use Rattle.hk_replay.proofs.HookFolding.{IsRight, hook_silent}
@@ -264,27 +265,57 @@ tells_usage NoMemory before now whole front apart = front (λ a. a)
 tells_usage ReadFault before now whole front apart = absurd (apart refl)
 tells_usage other before now whole front apart = let is : other ≡ Usage = (whole tt).0 in absurd (cc)
 
-other_stops : (bytes : List ℕ) (result : Status) (left before now : Option (List ℕ)) → left ≡ Some bytes →
-    (IsAnswer result → (result ≡ Usage) × Appends before now usage_line) →
-    ((IsAnswer result → ⊥) → WroteFront usage_line before now) → (result ≡ TooLong → Usage ≡ TooLong) →
-    Stops Other bytes result left before now
-other_stops bytes result left before now told whole front full =
-    let w : WroteFront usage_line before now =
-    wrote_front result (record { text = usage_line; status = Some result }) before now
-    (λ is. record { wrote = (whole is).1; ended = refl }) front in
-    record {
-      taken = [];
-      rest = bytes;
-      front = w.front;
-      split = refl;
-      told = told;
-      wrote = w.wrote;
-      few = omega arith;
-      full = λ long. let no : Usage ≡ TooLong = full long in absurd (cc);
-      due = inr (record { text = usage_line; due = refl; is = (w.more, w.whole) });
-      prompt = λ early late text parts much is. absurd (omega (arith, ap length parts, length-append early late));
-      reads_on = λ early late parts much. absurd (omega (arith, ap length parts, length-append early late));
-    }
+-- ---- a text that is due at once, and nothing taken
+
+module _ (command : Command) (text : List ℕ) (status : Status) (bytes : List ℕ) (short : status ≢ TooLong)
+    (due : (close : Close) → DueFor command [] close text) where
+  -- nothing was taken, and a front of the text was written, if anything was
+  stopped : (result : Status) (left before now : Option (List ℕ)) → left ≡ Some bytes → (w : WroteFront text before now) →
+      (result ≢ TooLong) → Stops command bytes result left before now
+  stopped result left before now told w apart = record {
+    taken = [];
+    rest = bytes;
+    front = w.front;
+    split = refl;
+    told = told;
+    wrote = w.wrote;
+    few = omega arith;
+    full = λ long. absurd (apart long);
+    due = inr (record { text = text; due = due (close_at bytes); is = (w.more, w.whole) });
+    prompt = λ early late text parts much is. absurd (omega (arith, ap length parts, length-append early late));
+    reads_on = λ early late parts much. absurd (omega (arith, ap length parts, length-append early late));
+  }
+
+  pub at_once : (result : Status) (left before now : Option (List ℕ)) → left ≡ Some bytes →
+      (IsAnswer result → (result ≡ status) × Appends before now text) →
+      ((IsAnswer result → ⊥) → WroteFront text before now) → (result ≡ TooLong → status ≡ TooLong) →
+      Stops command bytes result left before now
+  at_once result left before now told whole front full =
+      stopped result left before now told
+      (wrote_front result (record { text = text; status = Some result }) before now
+      (λ is. record { wrote = (whole is).1; ended = refl }) front)
+      (λ long. short (full long))
+
+-- for want of memory nothing was taken and written
+pub nothing_stops : (command : Command) (bytes : List ℕ) (left now : Option (List ℕ)) → left ≡ Some bytes →
+    Stops command bytes NoMemory left now now
+nothing_stops command bytes left now told = record {
+  taken = [];
+  rest = bytes;
+  front = [];
+  split = refl;
+  told = told;
+  wrote = Appends-nil now;
+  few = omega arith;
+  full = λ long. cc;
+  due = inl refl;
+  prompt = λ early late text parts much is. absurd (omega (arith, ap length parts, length-append early late));
+  reads_on = λ early late parts much. absurd (omega (arith, ap length parts, length-append early late));
+}
+
+-- and that is a front of the usage line
+pub nothing_told : (now : Option (List ℕ)) → TellsUsage NoMemory now now
+nothing_told now = record { front = []; more = usage_line; whole = refl; wrote = Appends-nil now }
 
 pub usage_stops : (command : Command) (bytes : List ℕ) (result : Status) (left before now : Option (List ℕ)) →
     Other ≡ command → left ≡ Some bytes →
@@ -293,4 +324,13 @@ pub usage_stops : (command : Command) (bytes : List ℕ) (result : Status) (left
     Stops command bytes result left before now
 usage_stops command bytes result left before now named told whole front full =
     subst (λ c. Stops c bytes result left before now) named
-    (other_stops bytes result left before now told whole front full)
+    (at_once Other usage_line Usage bytes (λ no. cc) (λ close. refl) result left before now told whole front full)
+
+-- a demo stops as its command does
+pub demo_stops : (command : Command) (payments : ℕ) (bytes : List ℕ) (result : Status) (left before now : Option (List ℕ)) →
+    Demo payments ≡ command → left ≡ Some bytes →
+    ((taken : List ℕ) → Stops (Demo payments) taken result (Some taken) before now) →
+    Stops command bytes result left before now
+demo_stops command payments bytes result left before now named told stops =
+    subst (λ l. Stops command bytes result l before now) (sym told)
+    (subst (λ c. Stops c bytes result (Some bytes) before now) named (stops bytes))

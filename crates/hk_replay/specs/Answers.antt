@@ -14,13 +14,15 @@ use Rattle.hk_lines.specs.Given.{Close, ended, Given, given}
 use Rattle.hk_lines.specs.Numbers.{longest_input}
 use Rattle.hk_lines.specs.Reached.{reached}
 use Rattle.hk_lines.specs.OutputForms.{line_text}
+use Rattle.hk_lines.specs.Words.{number_of}
 use Rattle.hk_lines.specs.declared.output_line.OutputLine.TheVariants as printed
 use Rattle.hk_lines.specs.declared.status.Status.{Status}
 use Rattle.hk_lines.specs.declared.status.Status.TheVariants.{Done, Usage, BadInput, ReadFault, WriteFault}
 use Rattle.hk_lines.specs.declared.status.Status.TheVariants.{NoMemory, HookRefused, TooLong}
 use Rattle.hk_ledger.specs.Machine as machine
+use Rattle.hk_demo.specs.Summary.{demo_line}
 use Rattle.hk_replay.specs.declared.command.Command.{Command}
-use Rattle.hk_replay.specs.declared.command.Command.TheVariants.{Hook, Replay, Other}
+use Rattle.hk_replay.specs.declared.command.Command.TheVariants.{Hook, Replay, Demo, Other}
 use Rattle.hk_replay.specs.declared.command.Question.{Question}
 use Rattle.hk_replay.specs.declared.command.Task.{Task}
 use Rattle.hk_replay.specs.declared.command.Task.TheVariants.{Check, Run}
@@ -34,16 +36,34 @@ use Rattle.hk_replay.specs.Replaying.{replay_turn}
 abbrev pub hook : Task → Version → Command
 hook task version = Hook (record { task = task; version = version })
 
--- the command that the words name
-abbrev pub command_of : List (List ℕ) → Command
-command_of (word ∷ []) =
+-- the command that one word names
+abbrev pub word_command : List ℕ → Command
+word_command word =
     if bytes_eq word (codes "check") then hook Check Zero
     else if bytes_eq word (codes "run") then hook Run Zero
     else if bytes_eq word (codes "check1") then hook Check One
     else if bytes_eq word (codes "run1") then hook Run One
     else if bytes_eq word (codes "replay") then Replay
     else Other
+
+-- how many Payments a demo has, by its second word
+abbrev pub payments_of : List ℕ → Option ℕ
+payments_of word = number_of 1 100000 word
+
+abbrev pub demo_command : Option ℕ → Command
+demo_command None = Other
+demo_command (Some payments) = Demo payments
+
+-- the command that the words name
+abbrev pub command_of : List (List ℕ) → Command
+command_of (word ∷ []) = word_command word
+command_of (word ∷ count ∷ []) = if bytes_eq word (codes "demo") then demo_command (payments_of count) else Other
 command_of words = Other
+
+-- a demo has no more Payments than may be
+abbrev pub IsInRange : Command → Type 0
+IsInRange (Demo payments) = payments ≤ 100000
+IsInRange command = Unit {0}
 
 abbrev pub usage_line : List ℕ
 usage_line = codes "usage: hooks check | run | check1 | run1 | replay | demo N" ++ 10 ∷ []
@@ -120,6 +140,7 @@ GivesFor (Hook question) bytes text status =
     Replies question (hook_code bytes) (hook_lines bytes ended).status (hook_lines bytes ended).text text status
 GivesFor Replay bytes text status =
     (text ≡ (replay_lines bytes ended).text) × ((replay_lines bytes ended).status ≡ Some status)
+GivesFor (Demo payments) bytes text status = (text ≡ demo_line payments) × (status ≡ Done)
 GivesFor Other bytes text status = (text ≡ usage_line) × (status ≡ Usage)
 
 abbrev pub Gives : List (List ℕ) → List ℕ → List ℕ → Status → Type 0

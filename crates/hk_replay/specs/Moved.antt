@@ -8,8 +8,9 @@ use Rattle.hk_lines.specs.declared.status.Status.TheVariants.{Done, Usage, Write
 use Rattle.hk_loop.specs.Answers.{IsAnswer, WroteFront}
 use Rattle.hk_loop.specs.Through.{close_at}
 use Rattle.hk_replay.specs.declared.command.Command.{Command}
-use Rattle.hk_replay.specs.declared.command.Command.TheVariants.{Hook, Replay, Other}
+use Rattle.hk_replay.specs.declared.command.Command.TheVariants.{Hook, Replay, Demo, Other}
 use Rattle.hk_replay.specs.declared.command.Question.{Question}
+use Rattle.hk_demo.specs.Summary.{demo_line}
 use Rattle.hk_replay.specs.Answers.{GivesFor, IsReply, hook_code, hook_lines, replay_lines, usage_line}
 
 -- a text was written that is given with this status
@@ -30,13 +31,21 @@ abbrev pub DueFor : Command → List ℕ → Close → List ℕ → Type 0
 DueFor (Hook question) bytes close text =
     RepliesDue question (hook_code bytes) (hook_lines bytes close).status (hook_lines bytes close).text text
 DueFor Replay bytes close text = text ≡ (replay_lines bytes close).text
+DueFor (Demo payments) bytes close text = text ≡ demo_line payments
 DueFor Other bytes close text = text ≡ usage_line
 
--- these bytes end nothing, so the command reads on; words that are no command read nothing
+-- these bytes end nothing, so the command reads on; a demo, and words that are no command, read nothing
 abbrev pub ReadsOn : Command → List ℕ → Type 0
 ReadsOn (Hook question) bytes = (hook_lines bytes opened).status ≡ None
 ReadsOn Replay bytes = (replay_lines bytes opened).status ≡ None
+ReadsOn (Demo payments) bytes = ⊥
 ReadsOn Other bytes = ⊥
+
+-- the command takes nothing from its source
+abbrev pub ReadsNothing : Command → Type 0
+ReadsNothing (Demo payments) = Unit {0}
+ReadsNothing Other = Unit {0}
+ReadsNothing command = ⊥
 
 -- a front of a text that is due was written, if anything was
 pub record WroteDue (command : Command) (bytes : List ℕ) (close : Close) (front : List ℕ) : Type 0 where

@@ -1,6 +1,13 @@
 //! The commands of the program, by its words.
-ghost use Rattle.std.specs.Prelude.{◌≡◌, ◌≤◌, map, string_bytes};
-ghost use Rattle.hk_replay.specs.Answers.{command_of, number};
+ghost use Rattle.std.specs.Prelude.{◌≡◌, ◌≤◌, map, string_bytes, IfOk};
+ghost use Rattle.hk_replay.specs.Answers.{command_of, number, word_command, IsInRange};
+
+use crate::number::read_number;
+use hk_base::NoMemory;
+use std::alloc::Global;
+
+/// The most Payments of a demo.
+const MOST_PAYMENTS: u64 = 100_000;
 
 /// A version of the machine.
 #[derive(Clone, Copy, Debug, PartialEq, Eq)]
@@ -41,29 +48,49 @@ pub(crate) struct Question {
 pub(crate) enum Command {
     Hook(Question),
     Replay,
+    /// A demo of so many Payments.
+    Demo(u32),
     Other,
 }
 
 /// The command that the words name.
-pub(crate) fn command_of(words: &[String]) -> Command
-    ensures names { result ≡ command_of (map string_bytes words.now) }
+pub(crate) fn command_of(alloc: Global, words: &[String]) -> Result<Command, NoMemory>
+    ensures names { IfOk result (λ command. command ≡ command_of (map string_bytes words.now)) }
+    ensures fits { IfOk result (λ command. IsInRange command) }
 {
-    let [word] = words else {
-        return Command::Other;
+    if let [word] = words {
+        return Ok(word_command(word.as_str()));
+    }
+    let [word, number] = words else {
+        return Ok(Command::Other);
     };
-    if word.as_str() == "check" {
+    if word.as_str() != "demo" {
+        return Ok(Command::Other);
+    }
+    match read_number(alloc, 1, MOST_PAYMENTS, number.as_bytes())? {
+        Some(payments) => Ok(Command::Demo(payments as u32)),
+        None => Ok(Command::Other),
+    }
+}
+
+/// The command that one word names.
+fn word_command(word: &str) -> Command
+    ensures names { result ≡ word_command word.now }
+    ensures fits { IsInRange result }
+{
+    if word == "check" {
         return hook(Task::Check, Version::Zero);
     }
-    if word.as_str() == "run" {
+    if word == "run" {
         return hook(Task::Run, Version::Zero);
     }
-    if word.as_str() == "check1" {
+    if word == "check1" {
         return hook(Task::Check, Version::One);
     }
-    if word.as_str() == "run1" {
+    if word == "run1" {
         return hook(Task::Run, Version::One);
     }
-    if word.as_str() == "replay" {
+    if word == "replay" {
         return Command::Replay;
     }
     Command::Other

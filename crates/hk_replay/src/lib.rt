@@ -2,10 +2,12 @@
 #![tactic(auto)]
 
 mod command;
+mod demo;
 mod hook;
 mod hook_lines;
 mod laws;
 mod limits;
+mod number;
 mod program;
 mod replay;
 mod replaying;

@@ -5,10 +5,11 @@ ghost use Rattle.hk_loop.specs.Answers.{IsAnswer};
 ghost use Rattle.hk_loop.specs.Causes.{HasCause};
 ghost use Rattle.hk_replay.specs.Answers.{command_of, Gives};
 ghost use Rattle.hk_replay.specs.Conserved.{Conserved};
-ghost use Rattle.hk_replay.specs.Moved.{Answered, Stops, TellsUsage};
+ghost use Rattle.hk_replay.specs.Moved.{Answered, ReadsNothing, Stops, TellsUsage};
 ghost use Rattle.hk_replay.specs.Told.{Told};
 
 use crate::command::{Command, command_of};
+use crate::demo::answer_demo;
 use crate::hook::answer_hook;
 use crate::replay::answer_replay;
 use hk_base::{Sink, Source};
@@ -25,6 +26,7 @@ use wa_exec::one_ending;
 /// `run1` do the same in version 1 of the machine.
 /// `replay` reads accounts, ledgers and transactions up to `end`, and prints what each of them does, and at the end
 /// all accounts.
+/// `demo N` makes a replay of N Payments, and prints how many had which result, and the fees that were burnt.
 /// All other words print the usage line.
 pub fn top<S: Source, K: Sink>(
     alloc: Global,
@@ -52,11 +54,13 @@ pub fn top<S: Source, K: Sink>(
     ensures told { result ≡ Status.Done → command_of (map string_bytes words.now) ≡ Command.Replay →
         (bytes : List ℕ) → S.left source.old ≡ Some bytes → Told (K.written sink.old) (K.written sink.new) }
 
-    // Words that are no command get the usage line, and nothing is taken.
+    // Words that are no command get the usage line.
     ensures usage { command_of (map string_bytes words.now) ≡ Command.Other →
         TellsUsage result (K.written sink.old) (K.written sink.new) }
-    ensures untouched { command_of (map string_bytes words.now) ≡ Command.Other → source.new ≡ source.old }
     ensures no_usage { command_of (map string_bytes words.now) ≢ Command.Other → result ≢ Status.Usage }
+
+    // A demo, and words that are no command, take nothing.
+    ensures untouched { ReadsNothing (command_of (map string_bytes words.now)) → source.new ≡ source.old }
 
     // Whatever it answers, no more was written than is due for the bytes that were taken, and no less than was due
     // some bytes before; and those had ended nothing, so it reads no further than a little behind the end.
@@ -69,9 +73,13 @@ pub fn top<S: Source, K: Sink>(
         (K.faults sink.old) (K.faults sink.new) }
 {
     one_ending::<HookHost>();
-    match command_of(words) {
+    let Ok(command) = command_of(alloc, words) else {
+        return Status::NoMemory;
+    };
+    match command {
         Command::Hook(question) => answer_hook(alloc, question, source, sink),
         Command::Replay => answer_replay(alloc, source, sink),
+        Command::Demo(payments) => answer_demo(alloc, payments, sink),
         Command::Other => write_answer(
             sink,
             b"usage: hooks check | run | check1 | run1 | replay | demo N\n",
