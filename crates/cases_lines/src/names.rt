@@ -28,7 +28,7 @@ const RESULTS: [ResultName; 22] = [
     ResultName::Success,
 ];
 
-const RULES: [Rule; 7] = [
+const RULES: [Rule; 12] = [
     Rule::LineTooLong,
     Rule::BadWord,
     Rule::BadShape,
@@ -36,6 +36,11 @@ const RULES: [Rule; 7] = [
     Rule::RepeatedAccount,
     Rule::Total,
     Rule::NoEnd,
+    Rule::Object,
+    Rule::JsonText,
+    Rule::JsonKey,
+    Rule::JsonValue,
+    Rule::JsonDeep,
 ];
 
 /// The result with this name.

@@ -5,6 +5,7 @@ use Rattle.hk_lines.specs.Cut.{Cut, behind, whole, cut, trim, is_skipped}
 use Rattle.hk_lines.specs.Numbers.{longest_line, endless_line}
 use Rattle.hk_lines.specs.declared.rule.Rule.{Rule}
 use Rattle.hk_lines.specs.declared.rule.Rule.TheVariants.{LineTooLong, BadWord, BadShape, BadOrder, RepeatedAccount, Total, NoEnd}
+use Rattle.hk_lines.specs.declared.rule.Rule.TheVariants.{Object, JsonText, JsonKey, JsonValue, JsonDeep}
 use Rattle.hk_lines.specs.declared.status.Status.{Status}
 use Rattle.hk_lines.specs.declared.status.Status.TheVariants.{BadInput, TooLong}
 
@@ -17,6 +18,11 @@ rule_name BadOrder = codes "bad_order"
 rule_name RepeatedAccount = codes "repeated_account"
 rule_name Total = codes "total"
 rule_name NoEnd = codes "no_end"
+rule_name Object = codes "object"
+rule_name JsonText = codes "json_text"
+rule_name JsonKey = codes "json_key"
+rule_name JsonValue = codes "json_value"
+rule_name JsonDeep = codes "json_deep"
 
 -- what comes behind the bytes: maybe more, nothing, or so much that it isn't looked at
 pub data Close : Type 0 where

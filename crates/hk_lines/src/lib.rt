@@ -38,3 +38,4 @@ pub use taken::{begins, read_if, rule_of};
 pub use told::{push_bad, too_long_line};
 pub use turned::Turned;
 pub use verdict::Verdict;
+pub use words::{read_bytes, read_number, split_words};

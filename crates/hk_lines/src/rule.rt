@@ -19,6 +19,16 @@ pub enum Rule {
     Total,
     /// The input ends before its last line.
     NoEnd,
+    /// Its bytes are no object.
+    Object,
+    /// Its text is no JSON.
+    JsonText,
+    /// A key of its JSON names no field that may stand there.
+    JsonKey,
+    /// A value of its JSON is none of its field.
+    JsonValue,
+    /// More objects and arrays of its JSON are open than may be.
+    JsonDeep,
 }
 
 impl Rule {
@@ -34,6 +44,11 @@ impl Rule {
             Rule::RepeatedAccount => "repeated_account",
             Rule::Total => "total",
             Rule::NoEnd => "no_end",
+            Rule::Object => "object",
+            Rule::JsonText => "json_text",
+            Rule::JsonKey => "json_key",
+            Rule::JsonValue => "json_value",
+            Rule::JsonDeep => "json_deep",
         }
     }
 }

@@ -1,5 +1,5 @@
 //! The numbers and bytes that a word spells.
-ghost use Rattle.std.specs.Prelude.{◌≡◌, map, IfOk};
+ghost use Rattle.std.specs.Prelude.{◌≡◌, ◌≤◌, map, IfOk, IfSome};
 ghost use Rattle.hk_lines.specs.Words.{words_of, number_of, sized_bytes_of, some_bytes_of};
 
 use hex::FromHex;
@@ -8,13 +8,14 @@ use std::alloc::Global;
 use std::str;
 
 /// The number of a word in decimal, without sign and leading zeros, from `least` to `most`.
-pub(crate) fn read_number(
+pub fn read_number(
     alloc: Global,
     least: u64,
     most: u64,
     word: &[u8],
 ) -> Result<Option<u64>, NoMemory>
     ensures number { IfOk result (λ found. found ≡ number_of least most word.now) }
+    ensures range { IfOk result (λ found. IfSome found (λ number. (least ≤ number) × (number ≤ most))) }
 {
     let Ok(text) = str::from_utf8(word) else {
         return Ok(None);
@@ -38,7 +39,7 @@ pub(crate) fn read_sized<const N: usize>(word: &[u8]) -> Option<[u8; N]>
 }
 
 /// The bytes of a word in hex digits of either case, where there is one.
-pub(crate) fn read_bytes(alloc: Global, word: &[u8]) -> Result<Option<Items<u8>>, NoMemory>
+pub fn read_bytes(alloc: Global, word: &[u8]) -> Result<Option<Items<u8>>, NoMemory>
     ensures bytes { IfOk result (λ found. found ≡ some_bytes_of word.now) }
 {
     let Some(bytes) = hex_to_bytes(alloc, word)? else {
@@ -51,7 +52,7 @@ pub(crate) fn read_bytes(alloc: Global, word: &[u8]) -> Result<Option<Items<u8>>
 }
 
 /// The words of a line, which are separated by one space each.
-pub(crate) fn split_words<'a>(alloc: Global, line: &'a [u8]) -> Result<Vec<&'a [u8]>, NoMemory>
+pub fn split_words<'a>(alloc: Global, line: &'a [u8]) -> Result<Vec<&'a [u8]>, NoMemory>
     ensures words { IfOk result (λ words. map (λ word. word.now) words.items ≡ words_of line.now) }
 {
     line.split(|byte| *byte == b' ').collect(alloc)

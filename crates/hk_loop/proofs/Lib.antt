@@ -3,3 +3,4 @@ pub mod Moves
 pub mod Invariant
 pub mod Ended
 pub mod Exits
+pub mod Gathers

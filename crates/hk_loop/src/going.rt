@@ -13,7 +13,7 @@ use hk_lines::{Cutter, Status};
 use std::alloc::Global;
 
 /// The most bytes that one read takes.
-const PIECE: usize = 4096;
+pub(crate) const PIECE: usize = 4096;
 
 /// Reads once, takes the bytes and writes what their lines print; the answer is how many bytes there were, at least
 /// one. An error is the status where the command or its input ends, or what stopped it.
@@ -54,8 +54,12 @@ pub(crate) fn read_piece<C: Command, S: Source, K: Sink>(
     }
 }
 
-// Reads at most so many bytes into the front of the buffer.
-fn read_some<S: Source>(source: &mut S, buffer: &mut [u8], most: usize) -> Result<usize, Failed>
+/// Reads at most so many bytes into the front of the buffer.
+pub(crate) fn read_some<S: Source>(
+    source: &mut S,
+    buffer: &mut [u8],
+    most: usize,
+) -> Result<usize, Failed>
     requires some { 0 < most }
     requires room { 0 < length buffer.old }
     ensures most { IfOk result (λ count. count ≤ most) }

@@ -2,6 +2,7 @@
 #![tactic(auto)]
 
 mod command;
+mod gathering;
 mod going;
 mod lines;
 mod pieces;
@@ -11,6 +12,7 @@ mod through;
 mod writing;
 
 pub use command::Command;
+pub use gathering::gather;
 pub use hk_lines::Turned;
 pub use through::go_through;
 pub use writing::{write_all, write_answer};

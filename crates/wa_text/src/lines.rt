@@ -6,8 +6,9 @@ ghost use Rattle.wa_text.specs.Instructions.{instructions, one, opcode_in};
 use crate::instructions::{alone, read_name, read_operands};
 use crate::names::opcode_of;
 use crate::numbers::{read_signed, read_word};
-use crate::words::{read_bytes, read_number, split_words};
+use crate::words::read_bytes;
 use crate::{AsmRule, Constant, TextLine};
+use hk_lines::{read_number, split_words};
 use std::alloc::Global;
 use wa_ops::{NoMemory, ValueType};
 

@@ -2,7 +2,7 @@
 ghost use Rattle.std.specs.Prelude.{◌≡◌, ◌≤◌, ◌^◌, IfOk, IfSome};
 ghost use Rattle.wa_text.specs.Numbers.{IsBelow, signed_of, word_of};
 
-use crate::words::read_number;
+use hk_lines::read_number;
 use std::alloc::Global;
 use wa_ops::NoMemory;
 

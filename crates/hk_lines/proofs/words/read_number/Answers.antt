@@ -13,6 +13,7 @@ pub returns-in_default : goal.returns-in_default
 returns-in_default c = record {
   number = number_none c.args.least c.args.most c.args.word.now (λ number text low high.
       c.in_default.ensures.cases.0 (IsUtf8-from_ascii _ (subst IsAscii (sym text) (IsAscii-decimal number (omega arith)))));
+  range = tt;
 }
 
 -- a word that doesn't parse is no decimal
@@ -21,6 +22,7 @@ returns-in_default-parse c = record {
   number = number_none c.args.least c.args.most c.args.word.now (λ number text low high.
       c.in_default-parse.not-Ok number
       (parse-decimal 64 number _ _ (omega arith) (omega arith) (c.in-Ok.ensures.cases.0 ∙ text) c.parse.ensures.value.0));
+  range = tt;
 }
 
 -- a word that is another than its number's decimal, or a number out of range
@@ -38,4 +40,5 @@ returns c = record {
             let test = (bytes_eq-Decides c.as_bytes.result.now c.args.word.now).1 spelled in
             cc (w.if-eq.ensures, test)
       ]);
+  range = tt;
 }
