@@ -17,9 +17,11 @@ use Rattle.hk_lines.specs.declared.output_line.OutputLine.TheVariants as printed
 use Rattle.hk_lines.proofs.Ending.{gives_status_law}
 use Rattle.hk_ledger.specs.Machine as machine
 use Rattle.hk_demo.specs.Summary.{demo_line}
+use Rattle.hk_asm.specs.Assembling.{asm_given}
+use Rattle.hk_asm.proofs.Telling.{gives_status}
 use Rattle.hk_replay.proofs.Deciding.{held_verdict}
 use Rattle.hk_replay.specs.declared.command.Command.{Command}
-use Rattle.hk_replay.specs.declared.command.Command.TheVariants.{Hook, Replay, Demo, Other}
+use Rattle.hk_replay.specs.declared.command.Command.TheVariants.{Hook, Replay, Demo, Asm, Other}
 use Rattle.hk_replay.specs.declared.command.Question.{Question}
 use Rattle.hk_replay.specs.declared.command.Task.{Task}
 use Rattle.hk_replay.specs.declared.command.Task.TheVariants.{Check, Run}
@@ -94,6 +96,7 @@ some_for law Replay bytes =
     let has : HasStatus (replay_lines bytes ended) = gives_status_law replay_turn longest_input machine.start bytes in
     ((replay_lines bytes ended).text, has.0, (refl, has.1))
 some_for law (Demo payments) bytes = (demo_line payments, Done, (refl, refl))
+some_for law Asm bytes = let has = gives_status bytes in ((asm_given bytes ended).text, has.0, (refl, has.1))
 some_for law Other bytes = (usage_line, Usage, (refl, refl))
 
 pub some_answer : EachRun → SomeAnswer

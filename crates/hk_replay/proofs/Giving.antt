@@ -13,13 +13,14 @@ use Rattle.hk_chain.specs.Calls.{hook_meaning}
 use Rattle.hk_alone.specs.Context as alone
 use Rattle.hk_alone.proofs.OneHost.{one_host}
 use Rattle.hk_lines.specs.Given.{ended}
+use Rattle.hk_asm.specs.Assembling.{asm_given}
 use Rattle.hk_lines.specs.OutputForms.{line_text}
 use Rattle.hk_lines.specs.declared.output_line.OutputLine.TheVariants as printed
 use Rattle.hk_lines.specs.declared.status.Status.{Status}
 use Rattle.hk_lines.specs.declared.status.Status.TheVariants.{Done, ReadFault, WriteFault, NoMemory, HookRefused}
 use Rattle.hk_loop.specs.Answers.{IsAnswer}
 use Rattle.hk_replay.specs.declared.command.Command.{Command}
-use Rattle.hk_replay.specs.declared.command.Command.TheVariants.{Hook, Replay, Demo, Other}
+use Rattle.hk_replay.specs.declared.command.Command.TheVariants.{Hook, Replay, Demo, Asm, Other}
 use Rattle.hk_replay.specs.declared.command.Question.{Question}
 use Rattle.hk_replay.specs.declared.command.Task.{Task}
 use Rattle.hk_replay.specs.declared.command.Task.TheVariants.{Check, Run}
@@ -121,6 +122,8 @@ one_for law Replay bytes first second status other x y =
     record { text = x.0 ∙ sym y.0; answer = same_status (replay_lines bytes ended).status status other x.1 y.1 }
 one_for law (Demo payments) bytes first second status other x y =
     record { text = x.0 ∙ sym y.0; answer = x.1 ∙ sym y.1 }
+one_for law Asm bytes first second status other x y =
+    record { text = x.0 ∙ sym y.0; answer = same_status (asm_given bytes ended).status status other x.1 y.1 }
 one_for law Other bytes first second status other x y = record { text = x.0 ∙ sym y.0; answer = x.1 ∙ sym y.1 }
 
 pub one_answer : OneEnding HostState → OneAnswer

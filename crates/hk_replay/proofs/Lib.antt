@@ -7,5 +7,6 @@ pub mod Together
 pub mod Folding
 pub mod Holding
 pub mod HookFolding
+pub mod Assembling
 pub mod Answering
 pub mod Deciding

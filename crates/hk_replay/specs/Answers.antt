@@ -21,8 +21,9 @@ use Rattle.hk_lines.specs.declared.status.Status.TheVariants.{Done, Usage, BadIn
 use Rattle.hk_lines.specs.declared.status.Status.TheVariants.{NoMemory, HookRefused, TooLong}
 use Rattle.hk_ledger.specs.Machine as machine
 use Rattle.hk_demo.specs.Summary.{demo_line}
+use Rattle.hk_asm.specs.Assembling.{asm_given, longest_text}
 use Rattle.hk_replay.specs.declared.command.Command.{Command}
-use Rattle.hk_replay.specs.declared.command.Command.TheVariants.{Hook, Replay, Demo, Other}
+use Rattle.hk_replay.specs.declared.command.Command.TheVariants.{Hook, Replay, Demo, Asm, Other}
 use Rattle.hk_replay.specs.declared.command.Question.{Question}
 use Rattle.hk_replay.specs.declared.command.Task.{Task}
 use Rattle.hk_replay.specs.declared.command.Task.TheVariants.{Check, Run}
@@ -44,6 +45,7 @@ word_command word =
     else if bytes_eq word (codes "check1") then hook Check One
     else if bytes_eq word (codes "run1") then hook Run One
     else if bytes_eq word (codes "replay") then Replay
+    else if bytes_eq word (codes "asm") then Asm
     else Other
 
 -- how many Payments a demo has, by its second word
@@ -66,7 +68,7 @@ IsInRange (Demo payments) = payments ≤ 100000
 IsInRange command = Unit {0}
 
 abbrev pub usage_line : List ℕ
-usage_line = codes "usage: hooks check | run | check1 | run1 | replay | demo N" ++ 10 ∷ []
+usage_line = codes "usage: hooks check | run | check1 | run1 | replay | demo N | asm" ++ 10 ∷ []
 
 -- the number of a version of the machine
 abbrev pub number : Version → ℕ
@@ -141,10 +143,16 @@ GivesFor (Hook question) bytes text status =
 GivesFor Replay bytes text status =
     (text ≡ (replay_lines bytes ended).text) × ((replay_lines bytes ended).status ≡ Some status)
 GivesFor (Demo payments) bytes text status = (text ≡ demo_line payments) × (status ≡ Done)
+GivesFor Asm bytes text status = (text ≡ (asm_given bytes ended).text) × ((asm_given bytes ended).status ≡ Some status)
 GivesFor Other bytes text status = (text ≡ usage_line) × (status ≡ Usage)
 
 abbrev pub Gives : List (List ℕ) → List ℕ → List ℕ → Status → Type 0
 Gives words bytes text status = GivesFor (command_of words) bytes text status
+
+-- the bytes of input that are taken at most
+abbrev pub limit_of : Command → ℕ
+limit_of Asm = longest_text
+limit_of command = longest_input
 
 -- the exit status of the process
 abbrev pub exit_status : Status → ℕ

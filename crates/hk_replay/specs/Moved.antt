@@ -2,16 +2,16 @@
 use Rattle.std.specs.Prelude.{ℕ, ◌≡◌, ◌≤◌, ◌⊎◌, List, [], ◌++◌, length, Option, Some, None}
 use Rattle.std.specs.Io.KnownBytes.{Appends}
 use Rattle.hk_lines.specs.Given.{Close, opened, IsFront}
-use Rattle.hk_lines.specs.Numbers.{longest_input}
 use Rattle.hk_lines.specs.declared.status.Status.{Status}
 use Rattle.hk_lines.specs.declared.status.Status.TheVariants.{Done, Usage, WriteFault, NoMemory, TooLong}
 use Rattle.hk_loop.specs.Answers.{IsAnswer, WroteFront}
 use Rattle.hk_loop.specs.Through.{close_at}
 use Rattle.hk_replay.specs.declared.command.Command.{Command}
-use Rattle.hk_replay.specs.declared.command.Command.TheVariants.{Hook, Replay, Demo, Other}
+use Rattle.hk_replay.specs.declared.command.Command.TheVariants.{Hook, Replay, Demo, Asm, Other}
 use Rattle.hk_replay.specs.declared.command.Question.{Question}
+use Rattle.hk_asm.specs.Assembling.{asm_given}
 use Rattle.hk_demo.specs.Summary.{demo_line}
-use Rattle.hk_replay.specs.Answers.{GivesFor, IsReply, hook_code, hook_lines, replay_lines, usage_line}
+use Rattle.hk_replay.specs.Answers.{GivesFor, IsReply, hook_code, hook_lines, limit_of, replay_lines, usage_line}
 
 -- a text was written that is given with this status
 pub record Answered (command : Command) (bytes : List ℕ) (status : Status) (before now : Option (List ℕ))
@@ -32,6 +32,7 @@ DueFor (Hook question) bytes close text =
     RepliesDue question (hook_code bytes) (hook_lines bytes close).status (hook_lines bytes close).text text
 DueFor Replay bytes close text = text ≡ (replay_lines bytes close).text
 DueFor (Demo payments) bytes close text = text ≡ demo_line payments
+DueFor Asm bytes close text = text ≡ (asm_given bytes close).text
 DueFor Other bytes close text = text ≡ usage_line
 
 -- these bytes end nothing, so the command reads on; a demo, and words that are no command, read nothing
@@ -39,6 +40,7 @@ abbrev pub ReadsOn : Command → List ℕ → Type 0
 ReadsOn (Hook question) bytes = (hook_lines bytes opened).status ≡ None
 ReadsOn Replay bytes = (replay_lines bytes opened).status ≡ None
 ReadsOn (Demo payments) bytes = ⊥
+ReadsOn Asm bytes = (asm_given bytes opened).status ≡ None
 ReadsOn Other bytes = ⊥
 
 -- the command takes nothing from its source
@@ -63,8 +65,8 @@ pub record Stops (command : Command) (bytes : List ℕ) (status : Status) (left 
   pub told : left ≡ Some rest
   pub wrote : Appends before now front
   -- no more bytes were taken than may be, and as many where the input is too long
-  pub few : length taken ≤ longest_input
-  pub full : status ≡ TooLong → length taken ≡ longest_input
+  pub few : length taken ≤ limit_of command
+  pub full : status ≡ TooLong → length taken ≡ limit_of command
   -- no more was written than is due for the bytes that were taken
   pub due : (front ≡ []) ⊎ WroteDue command taken (close_at rest) front
   -- no less was written than is due for all of them but the last 65,536

@@ -2,8 +2,8 @@
 ghost use Rattle.std.specs.Prelude.{◌≡◌, ◌≤◌, map, string_bytes, IfOk};
 ghost use Rattle.hk_replay.specs.Answers.{command_of, number, word_command, IsInRange};
 
-use crate::number::read_number;
 use hk_base::NoMemory;
+use hk_lines::read_number;
 use std::alloc::Global;
 
 /// The most Payments of a demo.
@@ -50,6 +50,7 @@ pub(crate) enum Command {
     Replay,
     /// A demo of so many Payments.
     Demo(u32),
+    Asm,
     Other,
 }
 
@@ -92,6 +93,9 @@ fn word_command(word: &str) -> Command
     }
     if word == "replay" {
         return Command::Replay;
+    }
+    if word == "asm" {
+        return Command::Asm;
     }
     Command::Other
 }

@@ -1,13 +1,13 @@
 //! The program's top call.
 #![tactic(auto)]
 
+mod asm;
 mod command;
 mod demo;
 mod hook;
 mod hook_lines;
 mod laws;
 mod limits;
-mod number;
 mod program;
 mod replay;
 mod replaying;

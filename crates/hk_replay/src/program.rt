@@ -8,6 +8,7 @@ ghost use Rattle.hk_replay.specs.Conserved.{Conserved};
 ghost use Rattle.hk_replay.specs.Moved.{Answered, ReadsNothing, Stops, TellsUsage};
 ghost use Rattle.hk_replay.specs.Told.{Told};
 
+use crate::asm::answer_asm;
 use crate::command::{Command, command_of};
 use crate::demo::answer_demo;
 use crate::hook::answer_hook;
@@ -27,6 +28,7 @@ use wa_exec::one_ending;
 /// `replay` reads accounts, ledgers and transactions up to `end`, and prints what each of them does, and at the end
 /// all accounts.
 /// `demo N` makes a replay of N Payments, and prints how many had which result, and the fees that were burnt.
+/// `asm` reads a hook as text, and prints the lines with its code that `check` and `run` take.
 /// All other words print the usage line.
 pub fn top<S: Source, K: Sink>(
     alloc: Global,
@@ -79,10 +81,11 @@ pub fn top<S: Source, K: Sink>(
     match command {
         Command::Hook(question) => answer_hook(alloc, question, source, sink),
         Command::Replay => answer_replay(alloc, source, sink),
+        Command::Asm => answer_asm(alloc, source, sink),
         Command::Demo(payments) => answer_demo(alloc, payments, sink),
         Command::Other => write_answer(
             sink,
-            b"usage: hooks check | run | check1 | run1 | replay | demo N\n",
+            b"usage: hooks check | run | check1 | run1 | replay | demo N | asm\n",
             Status::Usage,
         ),
     }

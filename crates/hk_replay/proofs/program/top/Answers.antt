@@ -21,6 +21,14 @@ returns-in-Replay-clause-exact g c = λ no_read no_write bytes text status told 
     (λ fault. no_write (c.answer_replay.ensures.cause.write_fault fault))
     (subst (λ command. GivesFor command bytes text status) (sym (sym c.in-Replay.is ∙ c.in-Ok.ensures.names)) given)
 
+pub returns-in-Asm-clause-exact : goal.returns-in-Asm-clause-exact
+returns-in-Asm-clause-exact g c = λ no_read no_write bytes text status told given.
+    exact_answer c.one_ending.ensures.law _ bytes text c.answer_asm.result status _ _
+    (λ answer. c.answer_asm.ensures.answered answer bytes told)
+    (λ fault. no_read (c.answer_asm.ensures.cause.read_fault fault))
+    (λ fault. no_write (c.answer_asm.ensures.cause.write_fault fault))
+    (subst (λ command. GivesFor command bytes text status) (sym (sym c.in-Asm.is ∙ c.in-Ok.ensures.names)) given)
+
 pub returns-in-Demo-clause-exact : goal.returns-in-Demo-clause-exact
 returns-in-Demo-clause-exact g c = λ no_read no_write bytes text status told given.
     exact_answer c.one_ending.ensures.law _ bytes text c.answer_demo.result status _ _
