@@ -1,8 +1,8 @@
 -- The bytes up to the last line feed.
-use Rattle.std.proofs.Common.{◌≡◌, ℕ, suc, ◌-◌, ◌≤◌, ◌==◌, true, false, if◌then◌else◌, List, [], ◌∷◌, ◌++◌, length, take}
+use Rattle.std.proofs.Common.{◌≡◌, ℕ, suc, ◌-◌, ◌≤◌, ◌==◌, false, if◌then◌else◌, List, [], ◌∷◌, ◌++◌, length, take}
 use Rattle.std.proofs.Common.{get_or, refl, sym, ap, ◌∙◌, arith}
 use Rattle.std.proofs.Math.Seq.{take-length, take-suc}
-use Rattle.std.proofs.lemmas.Bool.{eqb-true}
+use Rattle.std.proofs.lemmas.Bool.Decides.{nat_tests}
 use Rattle.hk_asm.specs.Assembling.{kept, whole_lines}
 
 kept_more : (byte last : ℕ) (front : List ℕ) → kept byte (front ++ last ∷ []) ≡ byte ∷ (front ++ last ∷ [])
@@ -28,15 +28,16 @@ last_split bytes d some =
     ∙ ap (λ n. take n bytes) more
     ∙ take-suc bytes (length bytes - 1) d (omega arith)
 
-pub all_lines : (bytes : List ℕ) (d : ℕ) → 1 ≤ length bytes → get_or bytes (length bytes - 1) d == 10 ≡ true →
+pub all_lines : (bytes : List ℕ) (d : ℕ) → 1 ≤ length bytes → get_or bytes (length bytes - 1) d ≡ 10 →
     whole_lines bytes ≡ bytes
 all_lines bytes d some feed =
     let front = take (length bytes - 1) bytes in
     let split : bytes ≡ front ++ 10 ∷ [] =
-    last_split bytes d some ∙ ap (λ last. front ++ last ∷ []) (eqb-true _ _ feed) in
+    last_split bytes d some ∙ ap (λ last. front ++ last ∷ []) feed in
     ap whole_lines split ∙ lines_end front ∙ sym split
 
-pub fewer_lines : (bytes : List ℕ) (d : ℕ) → 1 ≤ length bytes → get_or bytes (length bytes - 1) d == 10 ≡ false →
-    whole_lines bytes ≡ whole_lines (take (length bytes - 1) bytes)
+pub fewer_lines : (bytes : List ℕ) (d : ℕ) → 1 ≤ length bytes →
+    (get_or bytes (length bytes - 1) d ≡ 10 → ⊥) → whole_lines bytes ≡ whole_lines (take (length bytes - 1) bytes)
 fewer_lines bytes d some other =
-    ap whole_lines (last_split bytes d some) ∙ lines_before (take (length bytes - 1) bytes) _ other
+    let test : get_or bytes (length bytes - 1) d == 10 ≡ false = grind (arith, nat_tests) in
+    ap whole_lines (last_split bytes d some) ∙ lines_before (take (length bytes - 1) bytes) _ test
