@@ -201,3 +201,21 @@ halt_cause status (inr is) fault = cc
 pub halt_no_usage : (status : Status) → (status ≡ ReadFault) ⊎ (status ≡ NoMemory) → status ≢ Usage
 halt_no_usage status (inl is) usage = cc
 halt_no_usage status (inr is) usage = cc
+
+-- ---- what was sent, and what was told
+
+pub gave_of : (given : Given) (text sent : List ℕ) (status result : Status) (before now : Option (List ℕ)) →
+    sent ≡ text → (text ≡ given.text) × (given.status ≡ Some status) → (result ≡ status) × Appends before now sent →
+    Gave given result before now
+gave_of given text sent status result before now same told wrote = record {
+  wrote = subst (λ t. Appends before now t) (same ∙ told.0) wrote.1;
+  ended = told.1 ∙ ap Some (sym wrote.0);
+}
+
+pub front_of : (given : Given) (text sent : List ℕ) (before now : Option (List ℕ)) → sent ≡ text → text ≡ given.text →
+    WroteFront sent before now → WroteFront given.text before now
+front_of given text sent before now same told wrote = subst (λ t. WroteFront t before now) (same ∙ told) wrote
+
+pub gathered_as : (text sent : List ℕ) (left left' : Option (List ℕ)) → sent ≡ text →
+    Gathered longest_text text left left' → Gathered longest_text sent left left'
+gathered_as text sent left left' same gathered = subst (λ t. Gathered longest_text t left left') (sym same) gathered

@@ -1,21 +1,19 @@
-use Rattle.std.proofs.Common.{subst, sym, arith}
-use Rattle.hk_asm.specs.Assembling.{longest_text}
-use Rattle.hk_loop.specs.Gathered.{Gathered}
+use Rattle.std.proofs.Common.{arith}
 use Rattle.hk_loop.proofs.Exits.{sink_cause_since}
-use Rattle.hk_replay.proofs.Assembling.{text_answered, text_stops, no_answer, halt_stops, halt_cause, halt_no_usage}
+use Rattle.hk_replay.proofs.Assembling.{gathered_as, halt_cause, halt_no_usage, halt_stops, no_answer, text_answered, text_stops}
 use Rattle.hk_replay.proofs.asm.answer_asm.Goals as goal
 
 -- the text was taken whole
 pub returns-in-Ok-clause-answered : goal.returns-in-Ok-clause-answered
 returns-in-Ok-clause-answered g c = λ answer bytes told.
     text_answered bytes c.as_slice.result.now c.answer_whole.result _ _ _ _ told
-    (subst (λ text. Gathered longest_text text _ _) (sym c.as_slice.ensures.value) c.in-Ok.ensures.gathered)
+    (gathered_as _ _ _ _ c.as_slice.ensures.value c.in-Ok.ensures.gathered)
     (c.answer_whole.ensures.gave answer)
 
 pub returns-in-Ok-clause-stops : goal.returns-in-Ok-clause-stops
 returns-in-Ok-clause-stops g c = λ bytes told.
     text_stops bytes c.as_slice.result.now c.answer_whole.result _ _ _ _ told
-    (subst (λ text. Gathered longest_text text _ _) (sym c.as_slice.ensures.value) c.in-Ok.ensures.gathered)
+    (gathered_as _ _ _ _ c.as_slice.ensures.value c.in-Ok.ensures.gathered)
     c.answer_whole.ensures.gave c.answer_whole.ensures.front
 
 pub returns-in-Ok-clause-cause : goal.returns-in-Ok-clause-cause
