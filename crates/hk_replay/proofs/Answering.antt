@@ -21,14 +21,15 @@ use Rattle.hk_asm.specs.Assembling.{asm_given}
 use Rattle.hk_asm.proofs.Telling.{gives_status}
 use Rattle.hk_replay.proofs.Deciding.{held_verdict}
 use Rattle.hk_replay.specs.declared.command.Command.{Command}
-use Rattle.hk_replay.specs.declared.command.Command.TheVariants.{Hook, Replay, Demo, Asm, Other}
+use Rattle.hk_replay.specs.declared.command.Command.TheVariants.{Hook, Replay, Demo, Asm, Json, Unjson, Other}
 use Rattle.hk_replay.specs.declared.command.Question.{Question}
 use Rattle.hk_replay.specs.declared.command.Task.{Task}
 use Rattle.hk_replay.specs.declared.command.Task.TheVariants.{Check, Run}
 use Rattle.hk_replay.specs.declared.command.Version.{Version}
 use Rattle.hk_replay.specs.declared.command.Version.TheVariants.{Zero, One}
 use Rattle.hk_replay.specs.Answers.{number, SomeAnswer, Accepts, IsReply, Replies, GivesFor, hook_code}
-use Rattle.hk_replay.specs.Answers.{hook_lines, replay_lines, usage_line, command_of}
+use Rattle.hk_json.specs.Turns.{json_turn, unjson_turn}
+use Rattle.hk_replay.specs.Answers.{hook_lines, json_lines, replay_lines, unjson_lines, usage_line, command_of}
 use Rattle.hk_replay.specs.HookLines.{hook_turn}
 use Rattle.hk_replay.specs.VerdictLines.{accepted_line, refused_line}
 use Rattle.hk_replay.specs.Verdicts.{HasVerdict}
@@ -97,6 +98,12 @@ some_for law Replay bytes =
     ((replay_lines bytes ended).text, has.0, (refl, has.1))
 some_for law (Demo payments) bytes = (demo_line payments, Done, (refl, refl))
 some_for law Asm bytes = let has = gives_status bytes in ((asm_given bytes ended).text, has.0, (refl, has.1))
+some_for law Json bytes =
+    let has : HasStatus (json_lines bytes ended) = gives_status_law json_turn longest_input tt bytes in
+    ((json_lines bytes ended).text, has.0, (refl, has.1))
+some_for law Unjson bytes =
+    let has : HasStatus (unjson_lines bytes ended) = gives_status_law unjson_turn longest_input tt bytes in
+    ((unjson_lines bytes ended).text, has.0, (refl, has.1))
 some_for law Other bytes = (usage_line, Usage, (refl, refl))
 
 pub some_answer : EachRun → SomeAnswer

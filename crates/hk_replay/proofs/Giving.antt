@@ -20,12 +20,12 @@ use Rattle.hk_lines.specs.declared.status.Status.{Status}
 use Rattle.hk_lines.specs.declared.status.Status.TheVariants.{Done, ReadFault, WriteFault, NoMemory, HookRefused}
 use Rattle.hk_loop.specs.Answers.{IsAnswer}
 use Rattle.hk_replay.specs.declared.command.Command.{Command}
-use Rattle.hk_replay.specs.declared.command.Command.TheVariants.{Hook, Replay, Demo, Asm, Other}
+use Rattle.hk_replay.specs.declared.command.Command.TheVariants.{Hook, Replay, Demo, Asm, Json, Unjson, Other}
 use Rattle.hk_replay.specs.declared.command.Question.{Question}
 use Rattle.hk_replay.specs.declared.command.Task.{Task}
 use Rattle.hk_replay.specs.declared.command.Task.TheVariants.{Check, Run}
 use Rattle.hk_replay.specs.Answers.{number, IsAccepted, IsRunOf, IsRefusal, Accepts, IsReply, Replies}
-use Rattle.hk_replay.specs.Answers.{hook_code, hook_lines, replay_lines, GivesFor, command_of, IsSame, OneAnswer}
+use Rattle.hk_replay.specs.Answers.{hook_code, hook_lines, json_lines, replay_lines, unjson_lines, GivesFor, command_of, IsSame, OneAnswer}
 use Rattle.hk_replay.specs.VerdictLines.{cbak_text, refused_line}
 use Rattle.hk_replay.specs.Moved.{Answered}
 use Rattle.hk_bound.proofs.Verdicts.{one_refusal, holds_or_refused, one_module_held, one_hash, one_hook_bound}
@@ -124,6 +124,10 @@ one_for law (Demo payments) bytes first second status other x y =
     record { text = x.0 ∙ sym y.0; answer = x.1 ∙ sym y.1 }
 one_for law Asm bytes first second status other x y =
     record { text = x.0 ∙ sym y.0; answer = same_status (asm_given bytes ended).status status other x.1 y.1 }
+one_for law Json bytes first second status other x y =
+    record { text = x.0 ∙ sym y.0; answer = same_status (json_lines bytes ended).status status other x.1 y.1 }
+one_for law Unjson bytes first second status other x y =
+    record { text = x.0 ∙ sym y.0; answer = same_status (unjson_lines bytes ended).status status other x.1 y.1 }
 one_for law Other bytes first second status other x y = record { text = x.0 ∙ sym y.0; answer = x.1 ∙ sym y.1 }
 
 pub one_answer : OneEnding HostState → OneAnswer

@@ -2,6 +2,7 @@ pub mod Ranges
 pub mod Texts
 pub mod Giving
 pub mod Stopping
+pub mod Lines
 pub mod Conserving
 pub mod Together
 pub mod Folding

@@ -1,9 +1,9 @@
 -- What was taken and written when a command answered.
-use Rattle.std.proofs.Common.{◌≡◌, ◌≢◌, ℕ, ◌⊎◌, inl, inr, List, [], ◌∷◌, ◌++◌, length, Option, Some, None, ap, sym}
+use Rattle.std.proofs.Common.{◌≡◌, ◌≢◌, ◌≤◌, ℕ, ◌⊎◌, inl, inr, List, [], ◌∷◌, ◌++◌, length, Option, Some, None, ap, sym}
 use Rattle.std.proofs.Common.{subst, ◌∙◌, refl, arith, append-nil, length-append}
 use Rattle.std.specs.Io.KnownBytes.{Appends}
 use Rattle.std.proofs.KnownBytes.{Appends-nil}
-use Rattle.hk_lines.specs.Given.{Close, opened, ended, Given, gives, IsFront}
+use Rattle.hk_lines.specs.Given.{Close, opened, ended, Turn, Given, given, gives, IsFront}
 use Rattle.hk_lines.specs.Numbers.{longest_input}
 use Rattle.hk_lines.specs.Reached.{reached}
 use Rattle.hk_lines.specs.declared.status.Status.{Status}
@@ -13,51 +13,62 @@ use Rattle.hk_loop.specs.Answers.{IsAnswer, WroteFront, Gave}
 use Rattle.hk_loop.specs.Through.{close_at, Leaves}
 use Rattle.hk_loop.proofs.Exits.{wrote_front}
 use Rattle.hk_loop.proofs.Moves.{writes_more}
-use Rattle.hk_ledger.specs.Machine as machine
 use Rattle.hk_replay.specs.declared.command.Command.{Command}
-use Rattle.hk_replay.specs.declared.command.Command.TheVariants.{Hook, Replay, Demo, Other}
+use Rattle.hk_replay.specs.declared.command.Command.TheVariants.{Hook, Demo, Other}
 use Rattle.hk_replay.specs.declared.command.Question.{Question}
 use Rattle.hk_replay.specs.HookLines.{hook_turn}
 use Rattle.hk_replay.proofs.HookFolding.{IsRight, hook_silent}
-use Rattle.hk_replay.specs.Replaying.{replay_turn}
-use Rattle.hk_replay.specs.Answers.{IsReply, Replies, code_of, hook_code, hook_lines, replay_lines, usage_line}
-use Rattle.hk_replay.specs.Moved.{Answered, RepliesDue, DueFor, WroteDue, Stops, Tells, TellsUsage}
+use Rattle.hk_replay.specs.Answers.{GivesFor, IsReply, Replies, code_of, hook_code, hook_lines, limit_of, usage_line}
+use Rattle.hk_replay.specs.Moved.{Answered, RepliesDue, DueFor, ReadsOn, WroteDue, Stops, Tells, TellsUsage}
 
--- ---- replay
+-- ---- a command that answers its lines one by one
 
-pub replay_answered : (start : machine.State) (bytes : List ℕ) (status : Status) (before now : Option (List ℕ)) →
-    start ≡ machine.start →
-    Gave (gives replay_turn longest_input start bytes) status before now → Answered Replay bytes status before now
-replay_answered start bytes status before now is gave =
-    let g : Gave (replay_lines bytes ended) status before now =
-    subst (λ s. Gave (gives replay_turn longest_input s bytes) status before now) is gave in
-    record { text = (replay_lines bytes ended).text; given = (refl, g.ended); wrote = g.wrote }
+module _ {S : Type 0} (command : Command) (turn : S → List ℕ → Turn S) (first : S)
+    (most : limit_of command ≡ longest_input)
+    (gives_so : (bytes text : List ℕ) (status : Status) → text ≡ (given turn longest_input first bytes ended).text →
+    (given turn longest_input first bytes ended).status ≡ Some status → GivesFor command bytes text status)
+    (due_so : (bytes text : List ℕ) (close : Close) → text ≡ (given turn longest_input first bytes close).text →
+    DueFor command bytes close text)
+    (due_is : (bytes text : List ℕ) → DueFor command bytes opened text →
+    text ≡ (given turn longest_input first bytes opened).text)
+    (reads_so : (bytes : List ℕ) → (given turn longest_input first bytes opened).status ≡ None →
+    ReadsOn command bytes) where
+  pub each_answered : (start : S) (bytes : List ℕ) (status : Status) (before now : Option (List ℕ)) → start ≡ first →
+      Gave (gives turn longest_input start bytes) status before now → Answered command bytes status before now
+  each_answered start bytes status before now is gave =
+      let g : Gave (given turn longest_input first bytes ended) status before now =
+      subst (λ s. Gave (gives turn longest_input s bytes) status before now) is gave in
+      let text : List ℕ = (given turn longest_input first bytes ended).text in
+      record { text = text; given = gives_so bytes text status refl g.ended; wrote = g.wrote }
 
-replay_left : {keeps : machine.State → machine.State → Type 0} {final : machine.State} (bytes : List ℕ)
-    (status : Status) (left before now : Option (List ℕ)) →
-    Leaves replay_turn keeps longest_input machine.start bytes status final left before now →
-    Stops Replay bytes status left before now
-replay_left bytes status left before now l = record {
-  taken = l.taken;
-  rest = l.rest;
-  front = l.front;
-  split = l.split;
-  told = l.told;
-  wrote = l.wrote;
-  few = l.few;
-  full = l.full;
-  due = inr (record { text = (replay_lines l.taken (close_at l.rest)).text; due = refl; is = l.due });
-  prompt = λ early late text parts much due. subst (λ t. IsFront t l.front) (sym due) (l.prompt early late parts much);
-  reads_on = l.goes;
-}
+  each_left : {keeps : S → S → Type 0} {final : S} (bytes : List ℕ) (status : Status)
+      (left before now : Option (List ℕ)) →
+      Leaves turn keeps longest_input first bytes status final left before now → Stops command bytes status left before now
+  each_left bytes status left before now l = record {
+    taken = l.taken;
+    rest = l.rest;
+    front = l.front;
+    split = l.split;
+    told = l.told;
+    wrote = l.wrote;
+    few = subst (λ n. length l.taken ≤ n) (sym most) l.few;
+    full = λ long. l.full long ∙ sym most;
+    due = inr (record {
+      text = (given turn longest_input first l.taken (close_at l.rest)).text;
+      due = due_so l.taken _ (close_at l.rest) refl;
+      is = l.due;
+    });
+    prompt = λ early late text parts much due.
+        subst (λ t. IsFront t l.front) (sym (due_is early text due)) (l.prompt early late parts much);
+    reads_on = λ early late parts much. reads_so early (l.goes early late parts much);
+  }
 
-pub replay_stops : {keeps : machine.State → machine.State → Type 0} {final : machine.State} (start : machine.State)
-    (bytes : List ℕ) (status : Status) (left before now : Option (List ℕ)) → start ≡ machine.start →
-    Leaves replay_turn keeps longest_input start bytes status final left before now →
-    Stops Replay bytes status left before now
-replay_stops {keeps} {final} start bytes status left before now is l =
-    replay_left bytes status left before now
-    (subst (λ s. Leaves replay_turn keeps longest_input s bytes status final left before now) is l)
+  pub each_stops : {keeps : S → S → Type 0} {final : S} (start : S) (bytes : List ℕ) (status : Status)
+      (left before now : Option (List ℕ)) → start ≡ first →
+      Leaves turn keeps longest_input start bytes status final left before now → Stops command bytes status left before now
+  each_stops {keeps} {final} start bytes status left before now is l =
+      each_left bytes status left before now
+      (subst (λ s. Leaves turn keeps longest_input s bytes status final left before now) is l)
 
 -- ---- check and run
 

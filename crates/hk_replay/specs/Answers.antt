@@ -22,8 +22,9 @@ use Rattle.hk_lines.specs.declared.status.Status.TheVariants.{NoMemory, HookRefu
 use Rattle.hk_ledger.specs.Machine as machine
 use Rattle.hk_demo.specs.Summary.{demo_line}
 use Rattle.hk_asm.specs.Assembling.{asm_given, longest_text}
+use Rattle.hk_json.specs.Turns.{json_turn, unjson_turn}
 use Rattle.hk_replay.specs.declared.command.Command.{Command}
-use Rattle.hk_replay.specs.declared.command.Command.TheVariants.{Hook, Replay, Demo, Asm, Other}
+use Rattle.hk_replay.specs.declared.command.Command.TheVariants.{Hook, Replay, Demo, Asm, Json, Unjson, Other}
 use Rattle.hk_replay.specs.declared.command.Question.{Question}
 use Rattle.hk_replay.specs.declared.command.Task.{Task}
 use Rattle.hk_replay.specs.declared.command.Task.TheVariants.{Check, Run}
@@ -46,6 +47,8 @@ word_command word =
     else if bytes_eq word (codes "run1") then hook Run One
     else if bytes_eq word (codes "replay") then Replay
     else if bytes_eq word (codes "asm") then Asm
+    else if bytes_eq word (codes "json") then Json
+    else if bytes_eq word (codes "unjson") then Unjson
     else Other
 
 -- how many Payments a demo has, by its second word
@@ -68,7 +71,7 @@ IsInRange (Demo payments) = payments ≤ 100000
 IsInRange command = Unit {0}
 
 abbrev pub usage_line : List ℕ
-usage_line = codes "usage: hooks check | run | check1 | run1 | replay | demo N | asm" ++ 10 ∷ []
+usage_line = codes "usage: hooks check | run | check1 | run1 | replay | demo N | asm | json | unjson" ++ 10 ∷ []
 
 -- the number of a version of the machine
 abbrev pub number : Version → ℕ
@@ -121,6 +124,13 @@ hook_lines bytes close = given hook_turn longest_input None bytes close
 abbrev pub replay_lines : List ℕ → Close → Given
 replay_lines bytes close = given replay_turn longest_input machine.start bytes close
 
+-- the lines of `json`, which show objects, and of `unjson`, which are shown some
+abbrev pub json_lines : List ℕ → Close → Given
+json_lines bytes close = given json_turn longest_input tt bytes close
+
+abbrev pub unjson_lines : List ℕ → Close → Given
+unjson_lines bytes close = given unjson_turn longest_input tt bytes close
+
 -- the code of the hook line, once there is one
 abbrev pub code_of : Option (List ℕ) → List ℕ
 code_of None = []
@@ -144,6 +154,10 @@ GivesFor Replay bytes text status =
     (text ≡ (replay_lines bytes ended).text) × ((replay_lines bytes ended).status ≡ Some status)
 GivesFor (Demo payments) bytes text status = (text ≡ demo_line payments) × (status ≡ Done)
 GivesFor Asm bytes text status = (text ≡ (asm_given bytes ended).text) × ((asm_given bytes ended).status ≡ Some status)
+GivesFor Json bytes text status =
+    (text ≡ (json_lines bytes ended).text) × ((json_lines bytes ended).status ≡ Some status)
+GivesFor Unjson bytes text status =
+    (text ≡ (unjson_lines bytes ended).text) × ((unjson_lines bytes ended).status ≡ Some status)
 GivesFor Other bytes text status = (text ≡ usage_line) × (status ≡ Usage)
 
 abbrev pub Gives : List (List ℕ) → List ℕ → List ℕ → Status → Type 0

@@ -7,11 +7,11 @@ use Rattle.hk_lines.specs.declared.status.Status.TheVariants.{Done, Usage, Write
 use Rattle.hk_loop.specs.Answers.{IsAnswer, WroteFront}
 use Rattle.hk_loop.specs.Through.{close_at}
 use Rattle.hk_replay.specs.declared.command.Command.{Command}
-use Rattle.hk_replay.specs.declared.command.Command.TheVariants.{Hook, Replay, Demo, Asm, Other}
+use Rattle.hk_replay.specs.declared.command.Command.TheVariants.{Hook, Replay, Demo, Asm, Json, Unjson, Other}
 use Rattle.hk_replay.specs.declared.command.Question.{Question}
 use Rattle.hk_asm.specs.Assembling.{asm_given}
 use Rattle.hk_demo.specs.Summary.{demo_line}
-use Rattle.hk_replay.specs.Answers.{GivesFor, IsReply, hook_code, hook_lines, limit_of, replay_lines, usage_line}
+use Rattle.hk_replay.specs.Answers.{GivesFor, IsReply, hook_code, hook_lines, json_lines, limit_of, replay_lines, unjson_lines, usage_line}
 
 -- a text was written that is given with this status
 pub record Answered (command : Command) (bytes : List ℕ) (status : Status) (before now : Option (List ℕ))
@@ -33,6 +33,8 @@ DueFor (Hook question) bytes close text =
 DueFor Replay bytes close text = text ≡ (replay_lines bytes close).text
 DueFor (Demo payments) bytes close text = text ≡ demo_line payments
 DueFor Asm bytes close text = text ≡ (asm_given bytes close).text
+DueFor Json bytes close text = text ≡ (json_lines bytes close).text
+DueFor Unjson bytes close text = text ≡ (unjson_lines bytes close).text
 DueFor Other bytes close text = text ≡ usage_line
 
 -- these bytes end nothing, so the command reads on; a demo, and words that are no command, read nothing
@@ -41,6 +43,8 @@ ReadsOn (Hook question) bytes = (hook_lines bytes opened).status ≡ None
 ReadsOn Replay bytes = (replay_lines bytes opened).status ≡ None
 ReadsOn (Demo payments) bytes = ⊥
 ReadsOn Asm bytes = (asm_given bytes opened).status ≡ None
+ReadsOn Json bytes = (json_lines bytes opened).status ≡ None
+ReadsOn Unjson bytes = (unjson_lines bytes opened).status ≡ None
 ReadsOn Other bytes = ⊥
 
 -- the command takes nothing from its source

@@ -51,6 +51,8 @@ pub(crate) enum Command {
     /// A demo of so many Payments.
     Demo(u32),
     Asm,
+    Json,
+    Unjson,
     Other,
 }
 
@@ -96,6 +98,12 @@ fn word_command(word: &str) -> Command
     }
     if word == "asm" {
         return Command::Asm;
+    }
+    if word == "json" {
+        return Command::Json;
+    }
+    if word == "unjson" {
+        return Command::Unjson;
     }
     Command::Other
 }

@@ -6,6 +6,7 @@ mod command;
 mod demo;
 mod hook;
 mod hook_lines;
+mod json;
 mod laws;
 mod limits;
 mod program;

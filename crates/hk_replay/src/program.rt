@@ -12,6 +12,7 @@ use crate::asm::answer_asm;
 use crate::command::{Command, command_of};
 use crate::demo::answer_demo;
 use crate::hook::answer_hook;
+use crate::json::{answer_json, answer_unjson};
 use crate::replay::answer_replay;
 use hk_base::{Sink, Source};
 use hk_chain::HookHost;
@@ -29,6 +30,7 @@ use wa_exec::one_ending;
 /// all accounts.
 /// `demo N` makes a replay of N Payments, and prints how many had which result, and the fees that were burnt.
 /// `asm` reads a hook as text, and prints the lines with its code that `check` and `run` take.
+/// `json` shows objects as JSON texts, a line each, and `unjson` prints the objects that JSON texts show.
 /// All other words print the usage line.
 pub fn top<S: Source, K: Sink>(
     alloc: Global,
@@ -82,10 +84,12 @@ pub fn top<S: Source, K: Sink>(
         Command::Hook(question) => answer_hook(alloc, question, source, sink),
         Command::Replay => answer_replay(alloc, source, sink),
         Command::Asm => answer_asm(alloc, source, sink),
+        Command::Json => answer_json(alloc, source, sink),
+        Command::Unjson => answer_unjson(alloc, source, sink),
         Command::Demo(payments) => answer_demo(alloc, payments, sink),
         Command::Other => write_answer(
             sink,
-            b"usage: hooks check | run | check1 | run1 | replay | demo N | asm\n",
+            b"usage: hooks check | run | check1 | run1 | replay | demo N | asm | json | unjson\n",
             Status::Usage,
         ),
     }

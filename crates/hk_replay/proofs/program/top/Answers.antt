@@ -29,6 +29,22 @@ returns-in-Asm-clause-exact g c = λ no_read no_write bytes text status told giv
     (λ fault. no_write (c.answer_asm.ensures.cause.write_fault fault))
     (subst (λ command. GivesFor command bytes text status) (sym (sym c.in-Asm.is ∙ c.in-Ok.ensures.names)) given)
 
+pub returns-in-Json-clause-exact : goal.returns-in-Json-clause-exact
+returns-in-Json-clause-exact g c = λ no_read no_write bytes text status told given.
+    exact_answer c.one_ending.ensures.law _ bytes text c.answer_json.result status _ _
+    (λ answer. c.answer_json.ensures.answered answer bytes told)
+    (λ fault. no_read (c.answer_json.ensures.cause.read_fault fault))
+    (λ fault. no_write (c.answer_json.ensures.cause.write_fault fault))
+    (subst (λ command. GivesFor command bytes text status) (sym (sym c.in-Json.is ∙ c.in-Ok.ensures.names)) given)
+
+pub returns-in-Unjson-clause-exact : goal.returns-in-Unjson-clause-exact
+returns-in-Unjson-clause-exact g c = λ no_read no_write bytes text status told given.
+    exact_answer c.one_ending.ensures.law _ bytes text c.answer_unjson.result status _ _
+    (λ answer. c.answer_unjson.ensures.answered answer bytes told)
+    (λ fault. no_read (c.answer_unjson.ensures.cause.read_fault fault))
+    (λ fault. no_write (c.answer_unjson.ensures.cause.write_fault fault))
+    (subst (λ command. GivesFor command bytes text status) (sym (sym c.in-Unjson.is ∙ c.in-Ok.ensures.names)) given)
+
 pub returns-in-Demo-clause-exact : goal.returns-in-Demo-clause-exact
 returns-in-Demo-clause-exact g c = λ no_read no_write bytes text status told given.
     exact_answer c.one_ending.ensures.law _ bytes text c.answer_demo.result status _ _

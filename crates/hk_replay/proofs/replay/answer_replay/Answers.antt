@@ -1,5 +1,5 @@
 use Rattle.hk_replay.proofs.Conserving.{done_conserved, done_told}
-use Rattle.hk_replay.proofs.Stopping.{replay_answered, replay_stops}
+use Rattle.hk_replay.proofs.Lines.{replay_answered, replay_stops}
 use Rattle.hk_replay.proofs.replay.answer_replay.Goals as goal
 
 pub returns-clause-answered : goal.returns-clause-answered

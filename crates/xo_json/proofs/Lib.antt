@@ -1,0 +1,10 @@
+pub mod HexCase
+pub mod Numbers
+pub mod PlainValues
+pub mod Compared
+pub mod KeyTexts
+pub mod AmountValues
+pub mod Walking
+pub mod Nesting
+pub mod Refusing
+pub mod OneAnswer

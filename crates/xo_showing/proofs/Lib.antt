@@ -1,0 +1,11 @@
+pub mod Members
+pub mod Names
+pub mod Keys
+pub mod Fields
+pub mod Bytes
+pub mod Nested
+pub mod Amounts
+pub mod Values
+pub mod Placing
+pub mod Elements
+pub mod Printed

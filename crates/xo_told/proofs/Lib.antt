@@ -1,0 +1,10 @@
+pub mod Steps
+pub mod KeyFound
+pub mod Ordered
+pub mod PlainTold
+pub mod MembersTold
+pub mod ElementsTold
+pub mod SpelledBytes
+pub mod ValuesTold
+pub mod Telling
+pub mod Worked
