@@ -1,5 +1,5 @@
 //! The words of a case.
-use hk_base::{NoMemory, hex_to_bytes, push_hex};
+use hk_base::{AccountId, Hash256, NoMemory, hex_to_bytes, push_hex};
 use std::alloc::Global;
 use std::fmt::{Debug, Display};
 use std::io;
@@ -89,6 +89,29 @@ impl<'a> Words<'a> {
             }
         }
         Ok(bytes)
+    }
+
+    /// The next word as the 20 bytes of an account.
+    pub fn account(&mut self) -> Result<AccountId, CaseFault> {
+        let bytes = self.bytes()?;
+        let id: [u8; 20] = bytes.as_slice().try_into().or(Err(CaseFault::BadCase))?;
+        Ok(AccountId(id))
+    }
+
+    /// The next word as the 32 bytes of a hash.
+    pub fn hash(&mut self) -> Result<Hash256, CaseFault> {
+        let bytes = self.bytes()?;
+        let hash: [u8; 32] = bytes.as_slice().try_into().or(Err(CaseFault::BadCase))?;
+        Ok(Hash256(hash))
+    }
+
+    /// The next word as the two numbers of a field, as `2/4`.
+    pub fn field(&mut self) -> Result<(u8, u8), CaseFault> {
+        let (kind, code) = self.word()?.split_once('/').ok_or(CaseFault::BadCase)?;
+        match (kind.parse::<u8>(), code.parse::<u8>()) {
+            (Ok(kind), Ok(code)) => Ok((kind, code)),
+            _ => Err(CaseFault::BadCase),
+        }
     }
 
     // Adds the bytes of a part, as often as it comes.

@@ -13,8 +13,8 @@ impl Family for Emissions {
     fn answer(&self, words: &mut Words<'_>) -> Result<String, CaseFault> {
         match words.word()? {
             "nonce" => {
-                let parent = hash(words)?;
-                let account = account(words)?;
+                let parent = words.hash()?;
+                let account = words.account()?;
                 let position = words.value()?;
                 let callback = words.value()?;
                 let counter = words.value()?;
@@ -40,7 +40,7 @@ fn told_details(words: &mut Words<'_>) -> Result<String, CaseFault> {
     let with_callback = words.value()?;
     let generation = words.value()?;
     let burden = words.value()?;
-    let nonce = hash(words)?;
+    let nonce = words.hash()?;
     let (bytes, size) = details(&context(with_callback, 0, generation, burden), &nonce);
     let text = hex(words.alloc, bytes.get(..size).ok_or(CaseFault::BadCase)?)?;
     Ok(format!(in words.alloc; "{size} {text}")?)
@@ -54,7 +54,7 @@ fn emitted(words: &mut Words<'_>) -> Result<String, CaseFault> {
     let count: u32 = words.value()?;
     let mut nonces = Items::new(words.alloc);
     for _ in 0..count {
-        nonces.push(hash(words)?)?;
+        nonces.push(words.hash()?)?;
     }
     let blob = words.bytes()?;
     let context = context(with_callback, seq, generation, burden);
@@ -94,26 +94,6 @@ fn told(alloc: Global, emission: &Emission) -> Result<String, CaseFault> {
         transaction.generation,
         transaction.burden
     )?)
-}
-
-fn hash(words: &mut Words<'_>) -> Result<Hash256, CaseFault> {
-    let bytes = words.bytes()?;
-    if bytes.len() != 32 {
-        return Err(CaseFault::BadCase);
-    }
-    let mut hash = [0; 32];
-    hash.copy_from_slice(&bytes);
-    Ok(Hash256(hash))
-}
-
-fn account(words: &mut Words<'_>) -> Result<AccountId, CaseFault> {
-    let bytes = words.bytes()?;
-    if bytes.len() != 20 {
-        return Err(CaseFault::BadCase);
-    }
-    let mut account = [0; 20];
-    account.copy_from_slice(&bytes);
-    Ok(AccountId(account))
 }
 
 fn main(rt: HostRuntime) -> io::Result<()> {

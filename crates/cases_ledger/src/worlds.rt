@@ -1,7 +1,6 @@
 //! Calls on a world.
 use crate::replays::tell_lines;
 use cases::{CaseFault, Words, hex};
-use hk_base::{AccountId, Hash256};
 use hk_ledger::{World, open_account, open_ledger};
 
 const MOST_DROPS: u64 = 100_000_000_000_000_000;
@@ -21,7 +20,7 @@ pub fn told(words: &mut Words<'_>) -> Result<String, CaseFault> {
         match words.word()? {
             "open" => told.push_str(open(words, &mut world)?.as_str())?,
             "ledger" => {
-                open_ledger(&mut world, words.value()?, words.value()?, &hash(words)?);
+                open_ledger(&mut world, words.value()?, words.value()?, &words.hash()?);
                 told.push_str("ledger")?;
             }
             "lines" => {
@@ -36,7 +35,7 @@ pub fn told(words: &mut Words<'_>) -> Result<String, CaseFault> {
 
 // Opens an account.
 fn open(words: &mut Words<'_>, world: &mut World) -> Result<String, CaseFault> {
-    let id = account(words)?;
+    let id = words.account()?;
     let balance = words.value()?;
     let sequence = words.value()?;
     if balance > MOST_DROPS {
@@ -52,7 +51,7 @@ fn open(words: &mut Words<'_>, world: &mut World) -> Result<String, CaseFault> {
 fn look(call: &str, words: &mut Words<'_>, world: &World) -> Result<String, CaseFault> {
     let ledger = world.ledger();
     match call {
-        "holding" => match ledger.holding(&account(words)?) {
+        "holding" => match ledger.holding(&words.account()?) {
             Some(held) => Ok(format!(in words.alloc; "{} {}", held.balance, held.sequence)?),
             None => Ok(String::from_str(words.alloc, "none")?),
         },
@@ -64,16 +63,4 @@ fn look(call: &str, words: &mut Words<'_>, world: &World) -> Result<String, Case
         "numbers" => { Ok(format!(in words.alloc; "{} {}", ledger.next_number(), ledger.burnt())?) }
         _ => Err(CaseFault::BadCase),
     }
-}
-
-fn account(words: &mut Words<'_>) -> Result<AccountId, CaseFault> {
-    let bytes = words.bytes()?;
-    let id: [u8; 20] = bytes.as_slice().try_into().or(Err(CaseFault::BadCase))?;
-    Ok(AccountId(id))
-}
-
-fn hash(words: &mut Words<'_>) -> Result<Hash256, CaseFault> {
-    let bytes = words.bytes()?;
-    let hash: [u8; 32] = bytes.as_slice().try_into().or(Err(CaseFault::BadCase))?;
-    Ok(Hash256(hash))
 }

@@ -1,7 +1,7 @@
 //! How lines are printed.
 use crate::names;
 use cases::{CaseFault, Words};
-use hk_base::{AccountId, Hash256, Items, Outcome};
+use hk_base::{AccountId, Items, Outcome};
 use hk_lines::{OutputLine, print_line};
 use std::str;
 
@@ -32,7 +32,7 @@ pub fn printed(words: &mut Words<'_>) -> Result<String, CaseFault> {
             first: words.value()?,
             last: words.value()?,
         },
-        word => of_account(word, account(words)?, words)?,
+        word => of_account(word, words.account()?, words)?,
     };
     text(words, &line)
 }
@@ -60,8 +60,8 @@ fn of_account(
         }),
         "state" => Ok(OutputLine::State {
             account,
-            namespace: hash(words)?,
-            key: hash(words)?,
+            namespace: words.hash()?,
+            key: words.hash()?,
             value: value_or_none(words)?,
         }),
         _ => Err(CaseFault::BadCase),
@@ -72,22 +72,22 @@ fn of_account(
 pub fn printed_at_the_end(words: &mut Words<'_>) -> Result<String, CaseFault> {
     let line = match words.word()? {
         "account" => OutputLine::FinalAccount {
-            id: account(words)?,
+            id: words.account()?,
             balance: words.value()?,
             sequence: words.value()?,
             hooks: words.value()?,
             states: words.value()?,
         },
         "install" => OutputLine::FinalInstall {
-            account: account(words)?,
+            account: words.account()?,
             position: words.value()?,
-            hash: hash(words)?,
-            namespace: hash(words)?,
+            hash: words.hash()?,
+            namespace: words.hash()?,
         },
         "state" => OutputLine::FinalState {
-            account: account(words)?,
-            namespace: hash(words)?,
-            key: hash(words)?,
+            account: words.account()?,
+            namespace: words.hash()?,
+            key: words.hash()?,
             value: items(words)?,
         },
         "queued" => OutputLine::FinalQueued {
@@ -147,16 +147,4 @@ fn value_or_none(words: &mut Words<'_>) -> Result<Option<Items<u8>>, CaseFault> 
         return Ok(None);
     }
     Ok(Some(Items::from_vec(bytes)))
-}
-
-fn account(words: &mut Words<'_>) -> Result<AccountId, CaseFault> {
-    let bytes = words.bytes()?;
-    let id: [u8; 20] = bytes.as_slice().try_into().or(Err(CaseFault::BadCase))?;
-    Ok(AccountId(id))
-}
-
-fn hash(words: &mut Words<'_>) -> Result<Hash256, CaseFault> {
-    let bytes = words.bytes()?;
-    let hash: [u8; 32] = bytes.as_slice().try_into().or(Err(CaseFault::BadCase))?;
-    Ok(Hash256(hash))
 }

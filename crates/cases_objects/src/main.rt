@@ -34,11 +34,8 @@ impl Family for Objects {
 
 // The field of a word, as 2/4.
 fn field(words: &mut Words<'_>) -> Result<FieldId, CaseFault> {
-    let (kind, code) = words.word()?.split_once('/').ok_or(CaseFault::BadCase)?;
-    match (kind.parse::<u8>(), code.parse::<u8>()) {
-        (Ok(kind), Ok(code)) => Ok(FieldId { kind, code }),
-        _ => Err(CaseFault::BadCase),
-    }
+    let (kind, code) = words.field()?;
+    Ok(FieldId { kind, code })
 }
 
 fn main(rt: HostRuntime) -> io::Result<()> {

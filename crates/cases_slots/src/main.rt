@@ -34,9 +34,9 @@ fn step(slots: &mut Slots, words: &mut Words<'_>) -> Result<String, CaseFault> {
         }
         "subfield" => {
             let slot = words.value()?;
-            let field = field(words)?;
+            let (kind, code) = words.field()?;
             let into = words.value()?;
-            words.answer(slots.subfield(slot, field, into))
+            words.answer(slots.subfield(slot, FieldId { kind, code }, into))
         }
         "subarray" => {
             let slot = words.value()?;
@@ -79,15 +79,6 @@ fn read(call: &str, slots: &Slots, words: &mut Words<'_>) -> Result<String, Case
             Ok(None) => Ok(format!(in words.alloc; "none")?),
             Err(fault) => Ok(format!(in words.alloc; "{fault:?}")?),
         },
-        _ => Err(CaseFault::BadCase),
-    }
-}
-
-// The field of a word, as 2/4.
-fn field(words: &mut Words<'_>) -> Result<FieldId, CaseFault> {
-    let (kind, code) = words.word()?.split_once('/').ok_or(CaseFault::BadCase)?;
-    match (kind.parse::<u8>(), code.parse::<u8>()) {
-        (Ok(kind), Ok(code)) => Ok(FieldId { kind, code }),
         _ => Err(CaseFault::BadCase),
     }
 }

@@ -1,6 +1,6 @@
 -- How a run begins.
-use Rattle.std.proofs.Common.{◌≡◌, ◌∙◌, ap, List, [], Option, Some, Result, Ok, Err, refl}
-use Rattle.std.specs.Prelude.{IfOk}
+use Rattle.std.proofs.Common.{◌≡◌, ◌∙◌, ap, List, [], Some}
+pub use Rattle.std.proofs.lemmas.Result.{IfOk-weaker as if_ok}
 use Rattle.hk_base.specs.declared.ids.Hash256.{Hash256}
 use Rattle.xo_object.specs.declared.transaction.Parameter.{Parameter}
 use Rattle.hk_emit.specs.declared.emission.Emission.{Emission}
@@ -19,10 +19,6 @@ use Rattle.hk_state.specs.declared.entry.Entry.TheVariants as entry
 use Rattle.hk_state.specs.declared.key.Key.{Key}
 use Rattle.hk_state.specs.declared.key.Key.TheVariants as key
 use Rattle.hk_alone.specs.Context.{first_host, with_hook, zeros}
-
-pub if_ok : {A E : Type 0} (r : Result A E) (P Q : A → Type 0) → ((a : A) → P a → Q a) → IfOk r P → IfOk r Q
-if_ok (Ok a) P Q more p = more a p
-if_ok (Err e) P Q more p = tt
 
 pub unwritten : (m : Entries) (w : Writes) → w ≡ new_writes → with_writes m w ≡ m
 unwritten m w none = ap (with_writes m) none ∙ with_new m

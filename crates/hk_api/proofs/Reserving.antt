@@ -17,13 +17,13 @@ use Rattle.hk_api.specs.Fits.{ReservesFit}
 use Rattle.hk_api.specs.States.{added_units}
 
 -- the units of what stands at a key, of an account's own keys
-abbrev counted : Bool → Option Entry → ℕ
+abbrev pub counted : Bool → Option Entry → ℕ
 counted own found = if own then option_map_or units_in found 0 else 0
 
 nothing_more : (n : ℕ) → 0 + n ≡ n
 nothing_more n = omega arith
 
-part_is : (id : AccountId) (q : StateKey) (found : Option Entry) →
+pub part_is : (id : AccountId) (q : StateKey) (found : Option Entry) →
     part (units_of id) (as_key q) found ≡ counted (is_own (first_state id) (as_key q)) found
 part_is id q None = nothing (is_own (first_state id) (as_key q))
   where
@@ -32,7 +32,7 @@ part_is id q None = nothing (is_own (first_state id) (as_key q))
     nothing false = refl
 part_is id q (Some e) = nothing_more (counted (is_own (first_state id) (as_key q)) (Some e))
 
-own_account : (id : AccountId) (q : StateKey) → is_own (first_state id) (as_key q) ≡ true → id ≡ q.owner
+pub own_account : (id : AccountId) (q : StateKey) → is_own (first_state id) (as_key q) ≡ true → id ≡ q.owner
 own_account id q own =
     same_account id q.owner (and_parts (is_from (first_state id) (as_key q)) (are_beside (first_state id) (as_key q)) own).1
 

@@ -1,18 +1,12 @@
 -- What bytes are taken for, by what a reader answers.
-use Rattle.std.proofs.Common.{◌≡◌, ℕ, true, false, List, refl, sym, ap, ◌∙◌, Option, Some, None}
+use Rattle.std.proofs.Common.{◌≡◌, ℕ, true, false, List, sym, ap, ◌∙◌, Option, Some, None}
 use Rattle.std.specs.Option.{option_and_then, option_or, option_map}
 use Rattle.xo_list.specs.Item.{Item}
 use Rattle.xo_list.specs.Span.{Seen, items}
 use Rattle.xo_object.specs.declared.transaction.Transaction.{Transaction}
 use Rattle.hk_reading.specs.Parsing.{fields_of}
 use Rattle.hk_reading.specs.Transactions.{transaction_of}
-use Rattle.hk_reading.proofs.Finding.{Finds}
 use Rattle.hk_api.specs.Fee.{either_of, transaction_in}
-
--- what can't be isn't found
-pub unfound : {A : Type 0} (P : A → Type 0) (o : Option A) → Finds P o → ((x : A) → P x → ⊥) → o ≡ None
-unfound P None f never = refl
-unfound P (Some x) f never = absurd (never x (f.sound x refl))
 
 by_fields : (bytes : List ℕ) (o : Option (List Item)) → fields_of bytes ≡ o →
     transaction_in bytes ≡ option_and_then (either_of bytes) o

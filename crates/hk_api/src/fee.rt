@@ -1,10 +1,8 @@
 //! Row 63: the fee that an emission needs.
 ghost use Rattle.std.specs.Prelude.{◌≡◌, ◌<◌, ◌*◌, ◌^◌, ok_or, IfOk, IfSome};
-ghost use Rattle.std.specs.Option.{option_map};
 ghost use Rattle.xo_list.specs.Span.{items};
 ghost use Rattle.hk_calls.specs.Answers.{ShowsUnless};
 ghost use Rattle.hk_calls.specs.declared.code.Code.TheVariants as code;
-ghost use Rattle.hk_reading.specs.Parsing.{fields_of};
 ghost use Rattle.hk_reading.specs.Transactions.{transaction_of};
 ghost use Rattle.hk_state.specs.Fees.{code_fee, needed_fee};
 ghost use Rattle.hk_api.specs.Fee as rows;
@@ -13,31 +11,14 @@ use crate::Api;
 use hk_api_parts::own_burden;
 use hk_base::NoMemory;
 use hk_calls::{Code, Pair, Refusal, read, refuse};
-use hk_reading::transactions_found;
+use hk_reading::{object_of, transactions_found};
 use hk_state::needed_fee;
 use std::alloc::{AllocError, Global};
 use wa_num::Memory;
-use xo_object::{
-    Object, ObjectFault, Transaction, TransactionFault, one_reading, read_object, read_transaction,
-};
+use xo_object::{Object, Transaction, TransactionFault, read_transaction};
 
 /// The greatest fee that a call answers.
 const GREATEST: u128 = (1 << 63) - 1;
-
-/// The object that bytes are, if they are one.
-fn object_of(alloc: Global, bytes: &[u8]) -> Result<Option<Object>, NoMemory>
-    ensures found { IfOk result (λ found. option_map items found ≡ fields_of bytes.now) }
-    ensures same { IfOk result (λ found. IfSome found (λ object. object.bytes ≡ bytes.now)) }
-{
-    one_reading();
-    match read_object(alloc, bytes) {
-        Ok(object) => Ok(Some(object)),
-        Err(fault) => match fault {
-            ObjectFault::NoMemory => Err(AllocError),
-            _ => Ok(None),
-        },
-    }
-}
 
 /// The transaction that an object is as it is sent, or as a hook emits it.
 fn transaction_of(

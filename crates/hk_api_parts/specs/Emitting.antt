@@ -89,8 +89,13 @@ context_of setting place burden = record {
   burden = burden;
 }
 
--- 31: the pair is wp wl
-abbrev pub ledger_nonce : Setting → Place → Emitting → List ℕ → Pair → OrCode (Output × Emitting)
+-- a row that draws a nonce: from the execution's setting and place, what it emitted so far, the memory, and the pair
+-- wp wl, to what it writes and what it has emitted then
+abbrev pub Draws : Type 0
+Draws = Setting → Place → Emitting → List ℕ → Pair → OrCode (Output × Emitting)
+
+-- 31
+abbrev pub ledger_nonce : Draws
 ledger_nonce setting place e m write = do
   inside m write
   refuse (nat_lt write.count 32) code.TooSmall
@@ -115,16 +120,16 @@ etxn_burden setting e = do
 abbrev pub etxn_generation : Setting → OrCode ℤ
 etxn_generation setting = Ok (pos (next_generation setting))
 
--- 61: the pair is wp wl
-abbrev pub etxn_nonce : Setting → Place → Emitting → List ℕ → Pair → OrCode (Output × Emitting)
+-- 61
+abbrev pub etxn_nonce : Draws
 etxn_nonce setting place e m write = do
   inside m write
   refuse (nat_lt write.count 32) code.TooSmall
   refuse (nat_le 255 e.drawn) code.TooManyNonces
   Ok (writes (nonce_of setting place e.drawn).0, with_nonce e (nonce_of setting place e.drawn))
 
--- 62: the pair is wp wl
-abbrev pub etxn_details : Setting → Place → Emitting → List ℕ → Pair → OrCode (Output × Emitting)
+-- 62
+abbrev pub etxn_details : Draws
 etxn_details setting place e m write = do
   inside m write
   b ← own_burden setting e

@@ -1,7 +1,6 @@
 -- What the rules say of imports and exports.
 use Rattle.std.proofs.Common.{ℕ, ◌≡◌, ◌+◌, ◌-◌, ◌<◌, ◌≤◌, ◌==◌, ◌&&◌, ◌||◌, inl, inr, suc, zero, List, [], ◌∷◌, ◌∙◌, not, Bool, true, false, Option, Some, None, refl, sym, ap, ap₂, subst, length, reverse, arith}
-use Rattle.std.proofs.lemmas.Bool.{or_right as or_true_right}
-use Rattle.std.proofs.lemmas.Bool.{or_left as or_true_left}
+use Rattle.std.proofs.lemmas.Bool.{and_parts, or_left as or_true_left, or_right as or_true_right}
 use Rattle.std.specs.Prelude.{slice_get, find, if◌then◌else◌, option_map, codes, nat_le}
 use Rattle.std.specs.List.{list_any}
 use Rattle.std.specs.Option.{option_map_or}
@@ -14,12 +13,13 @@ use Rattle.wa_ops.specs.declared.modules.ImportItem.TheVariants.{Function, Table
 use Rattle.wa_ops.specs.declared.modules.Module.{Module}
 use Rattle.wa_ops.specs.declared.modules.ModuleExport.{ModuleExport}
 use Rattle.wa_ops.specs.declared.op.ValueType.{ValueType}
-use Rattle.wa_ops.specs.declared.op.ValueType.TheVariants.{I32, I64, F32, F64}
+use Rattle.wa_ops.specs.declared.op.ValueType.TheVariants.{I32, I64}
 use Rattle.wa_ops.specs.Callees.{takes, gives}
 use Rattle.wa_ops.specs.Contexts.{calls_of, callee_of_row, first_of, function_type, parameters_of, result_of}
 use Rattle.wa_ops.specs.HookRules.{are_types, count_of_kind, has_repeats, is_api_import, is_bad_export, is_cbak, is_entry, is_function_type, is_hook, is_row_item, is_row_type, IsRuled, passes}
 use Rattle.wa_ops.proofs.RowLemmas.{row_gives, row_takes}
 use Rattle.wa_ops.proofs.RulesByName.{rules_by_name}
+use Rattle.wa_ops.proofs.Types.{same_type}
 use Rattle.wa_ops.specs.Rows.{row_named, row_parameters, row_answer}
 use Rattle.wa_ops.specs.Typing.{and_then, is_same_type}
 use Rattle.wa_validate.specs.Needs.{AllRowTypes, HasRowType, IsTypeOf}
@@ -29,26 +29,13 @@ use Rattle.hk_bound.specs.Laws.{EntryTypes, IsEntryType}
 
 -- ---- imports
 
-same_type : (x y : ValueType) → is_same_type x y ≡ true → x ≡ y
-same_type I32 I32 e = refl
-same_type I64 I64 e = refl
-same_type F32 F32 e = refl
-same_type F64 F64 e = refl
-same_type x y e = absurd (cc e)
-
-and_left : (a b : Bool) → (a && b) ≡ true → a ≡ true
-and_left true b e = refl
-and_left false b e = absurd (cc e)
-
-and_right : (a b : Bool) → (a && b) ≡ true → b ≡ true
-and_right true b e = e
-and_right false b e = absurd (cc e)
-
 types_same : (xs ys : List ValueType) → are_types xs ys ≡ true → xs ≡ ys
 types_same [] [] e = refl
 types_same [] (y ∷ ys) e = absurd (cc e)
 types_same (x ∷ xs) [] e = absurd (cc e)
-types_same (x ∷ xs) (y ∷ ys) e = ap₂ (λ z zs. z ∷ zs) (same_type x y (and_left (is_same_type x y) (are_types xs ys) e)) (types_same xs ys (and_right (is_same_type x y) (are_types xs ys) e))
+types_same (x ∷ xs) (y ∷ ys) e =
+    let both = and_parts (is_same_type x y) (are_types xs ys) e in
+    ap₂ (λ z zs. z ∷ zs) (same_type x y both.0) (types_same xs ys both.1)
 
 passed : {A : Type 0} (test : A → Bool) (xs : List A) (i : ℕ) → passes test xs i ≡ true → (x : A) × (slice_get xs i ≡ Some x) × (test x ≡ true)
 passed {A = A} test xs i e = at (slice_get xs i) refl e
@@ -65,8 +52,9 @@ listed types index None e = absurd (cc e)
 listed types index (Some row) e =
     let p = passed (is_function_type (row_parameters row) (row_answer row)) types index e in
     let t : FuncType = p.0 in
-    let takes_these : t.parameters ≡ row_parameters row = types_same t.parameters (row_parameters row) (and_left (are_types t.parameters (row_parameters row)) (are_types t.results (row_answer row ∷ [])) p.2) in
-    let gives_this : t.results ≡ row_answer row ∷ [] = types_same t.results (row_answer row ∷ []) (and_right (are_types t.parameters (row_parameters row)) (are_types t.results (row_answer row ∷ [])) p.2) in
+    let both = and_parts (are_types t.parameters (row_parameters row)) (are_types t.results (row_answer row ∷ [])) p.2 in
+    let takes_these : t.parameters ≡ row_parameters row = types_same t.parameters (row_parameters row) both.0 in
+    let gives_this : t.results ≡ row_answer row ∷ [] = types_same t.results (row_answer row ∷ []) both.1 in
     (t, p.1, record { parameters = ap reverse takes_these ∙ sym (row_takes row); results = gives_this ∙ ap (λ a. a ∷ []) (sym (row_gives row)) })
 
 row_type : (types : List FuncType) (name : List ℕ) (item : ImportItem) → is_row_item types (row_named name) item ≡ true → HasRowType types name item
@@ -131,8 +119,8 @@ entry_by m i e = at (function_type m i) refl e
     at None h k = absurd (cc k)
     at (Some t) h k = record {
       within = typed_within m.functions i (λ index. slice_get m.types index) (is_function_type (I32 ∷ []) I64) e;
-      parameters = ap parameters_of h ∙ types_same t.parameters (I32 ∷ []) (and_left (are_types t.parameters (I32 ∷ [])) (are_types t.results (I64 ∷ [])) k);
-      result = ap result_of h ∙ ap first_of (types_same t.results (I64 ∷ []) (and_right (are_types t.parameters (I32 ∷ [])) (are_types t.results (I64 ∷ [])) k));
+      parameters = ap parameters_of h ∙ types_same t.parameters (I32 ∷ []) (and_parts (are_types t.parameters (I32 ∷ [])) (are_types t.results (I64 ∷ [])) k).0;
+      result = ap result_of h ∙ ap first_of (types_same t.results (I64 ∷ []) (and_parts (are_types t.parameters (I32 ∷ [])) (are_types t.results (I64 ∷ [])) k).1);
     }
 
 entry_fine : (imported : ℕ) (m : Module) (x : ModuleExport) → (is_hook x || is_cbak x) ≡ true → is_bad_export imported m x ≡ false → IsEntryType m (x.index - imported)
@@ -140,8 +128,8 @@ entry_fine imported m x named fine =
     let arms : (if is_hook x || is_cbak x then not (is_entry imported m x) else x.kind == 0) ≡ false =
     or_right (nat_le (count_of_kind imported m x.kind) x.index) (if is_hook x || is_cbak x then not (is_entry imported m x) else x.kind == 0) fine in
     let is : is_entry imported m x ≡ true = not_false (is_entry imported m x) (ap (λ b. if b then not (is_entry imported m x) else x.kind == 0) (sym named) ∙ arms) in
-    entry_by m (x.index - imported) (and_right (nat_le imported x.index) (option_map_or (is_function_type (I32 ∷ []) I64) (function_type m (x.index - imported)) false)
-    (and_right (x.kind == 0) (nat_le imported x.index && option_map_or (is_function_type (I32 ∷ []) I64) (function_type m (x.index - imported)) false) is))
+    entry_by m (x.index - imported) (and_parts (nat_le imported x.index) (option_map_or (is_function_type (I32 ∷ []) I64) (function_type m (x.index - imported)) false)
+    (and_parts (x.kind == 0) (nat_le imported x.index && option_map_or (is_function_type (I32 ∷ []) I64) (function_type m (x.index - imported)) false) is).1).1
 
 no_bad : (m : Module) → IsRuled m → list_any (is_bad_export (length (calls_of m.imports)) m) m.exports ≡ false
 no_bad m kept =

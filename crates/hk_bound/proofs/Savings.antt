@@ -18,7 +18,7 @@ use Rattle.hk_rules.specs.declared.guards.Guards.{Guards}
 use Rattle.hk_rules.specs.declared.guards.LoopGuard.{LoopGuard}
 use Rattle.hk_rules.specs.Loops.{loop_guards, innermost, body_guards, code_guards}
 use Rattle.hk_rules.specs.Sparing.{spared}
-use Rattle.hk_rules.proofs.Looping.{each_at}
+use Rattle.wa_ops.proofs.Places.{each_at}
 use Rattle.hk_bound.specs.Bounds.{bound_of}
 use Rattle.hk_bound.specs.Weights.{weight, inner_of, savings, whole, spared_by, weighed}
 use Rattle.hk_bound.proofs.Summing.{Stand, stand_left, stand_right, stand_tail, stand_weight, turns_both, all_stand, body_bound, same_number, spread_region, spread_node, guards_at, first_dropped, others_dropped}

@@ -3,7 +3,6 @@ use Rattle.std.proofs.Common.{ℕ, ◌≡◌, ◌+◌, ◌*◌, ◌<◌, ◌≤�
 use Rattle.std.specs.Prelude.{slice_get, map, option_map}
 use Rattle.std.specs.Option.{option_map_or}
 use Rattle.std.proofs.lemmas.List.{append_assoc, append-nil, map-append}
-use Rattle.std.proofs.Math.Seq.{drop-cons}
 use Rattle.std.proofs.Math.ListN.{drop_of_length-le}
 use Rattle.wa_ops.specs.declared.op.Op.{Op}
 use Rattle.wa_ops.specs.declared.op.Op.TheVariants.{Block, Loop, If, Else, End, I32Const}
@@ -12,11 +11,11 @@ use Rattle.wa_ops.specs.Sequences.{Sequence, done, plain, block, loop, if_then, 
 use Rattle.wa_ops.specs.Ends.{behind}
 use Rattle.wa_ops.specs.declared.modules.Code.{Code}
 use Rattle.wa_ops.proofs.Parsing.{found_tree}
+use Rattle.wa_ops.proofs.Places.{read_drop}
 use Rattle.wa_ops.specs.declared.modules.Module.{Module}
 use Rattle.wa_ops.specs.Soundness.{Each, IsSound, IsSoundBody}
 use Rattle.wa_ops.specs.Typing.{and_then}
 use Rattle.hk_rules.specs.declared.guards.Guards.{Guards}
-use Rattle.hk_rules.proofs.Looping.{each_at}
 use Rattle.hk_bound.specs.Bounds.{bound_of}
 use Rattle.std.proofs.lemmas.Option.{slice_get_read}
 use Rattle.hk_rules.specs.declared.guards.LoopGuard.{LoopGuard}
@@ -24,7 +23,6 @@ use Rattle.hk_rules.specs.declared.guards.FunctionGuards.{FunctionGuards}
 use Rattle.hk_rules.specs.Loops.{loop_guard, loop_guards, innermost, body_guards, code_guards}
 use Rattle.hk_rules.specs.Passing.{first_around, others_around}
 use Rattle.hk_bound.specs.Weights.{weight, counted, inner_of, total, last_turns}
-use Rattle.wa_validate.proofs.Judging.{at_op}
 
 -- ---- where the loops of a sequence stand among all loops
 
@@ -218,7 +216,7 @@ pub adding_next : (loops : List LoopGuard) (ops : List Op) (marks : List (Option
     → added ≡ counted op (weight loops (inner_of (slice_get marks i))) → added < 4294967296 → Adding loops ops marks i sum → Adding loops ops marks (i + 1) (sum + added)
 adding_next loops ops marks i sum added op h e is few before =
     let here : total loops (drop i ops) (drop i marks) ≡ added + total loops (drop (i + 1) ops) (drop (i + 1) marks) =
-    ap (λ os. total loops os (drop i marks)) (at_op ops i op h e)
+    ap (λ os. total loops os (drop i marks)) (read_drop ops i op h e)
     ∙ ap₂ (λ x ms. counted op (weight loops x) + total loops (drop (i + 1) ops) ms) (first_dropped marks i) (others_dropped marks i)
     ∙ ap (λ n. n + total loops (drop (i + 1) ops) (drop (i + 1) marks)) (sym is) in
     record { whole = omega (arith, here, before.whole); small = omega (arith, few, before.small) }

@@ -1,8 +1,8 @@
 -- A call keeps the memory's length.
 use Rattle.std.specs.Prelude.{ℤ, pos}
-use Rattle.std.proofs.Common.{◌≡◌, ℕ, ◌+◌, ◌≤◌, ◌==◌, ◌&&◌, Bool, true, false, List, ◌++◌, length, take, drop, refl, arith, length-append, length-take, length-drop, Ok, Err, if◌then◌else◌, nat_lt}
-use Rattle.std.proofs.lemmas.Bool.Decides.{nat_tests}
-use Rattle.wa_num.specs.Memory.{fits, written}
+use Rattle.std.proofs.Common.{◌≡◌, ℕ, ◌==◌, ◌&&◌, Bool, true, false, List, length, refl, Ok, Err, if◌then◌else◌, nat_lt}
+use Rattle.wa_num.specs.Memory.{written}
+use Rattle.wa_num.proofs.Lengths.{length-written}
 use Rattle.hk_calls.specs.declared.arguments.Pair.{Pair}
 use Rattle.hk_calls.specs.declared.code.Code.TheVariants as code
 use Rattle.hk_calls.specs.Arguments.{pair_of}
@@ -14,25 +14,12 @@ use Rattle.hk_calls.specs.Rules.{OrCode, ◌>>=◌}
 abbrev Stays : List ℕ → OrCode (ℤ × List ℕ) → Type 0
 Stays m after = length (given m after).1 ≡ length m
 
-front_stays : (m : List ℕ) (at : ℕ) (bytes : List ℕ) → at + length bytes ≤ length m →
-    length (take at m ++ bytes ++ drop (at + length bytes) m) ≡ length m
-front_stays m at bytes within =
-    omega (arith, length-append {A = ℕ}, length-take {A = ℕ}, length-drop {A = ℕ})
-
-written_stays : (m : List ℕ) (at : ℕ) (bytes : List ℕ) → length (written m at bytes) ≡ length m
-written_stays m at bytes = by_test (fits m at (length bytes)) refl
-  where
-    by_test : (b : Bool) → fits m at (length bytes) ≡ b →
-        length (if b then take at m ++ bytes ++ drop (at + length bytes) m else m) ≡ length m
-    by_test false e = refl
-    by_test true e = front_stays m at bytes (grind (arith, nat_tests))
-
 out_stays : (m : List ℕ) (write : Pair) (bytes : List ℕ) → Stays m (write_out m write bytes)
 out_stays m write bytes = by_test (nat_lt write.count (length bytes))
   where
     by_test : (b : Bool) → Stays m (if b then Err code.TooSmall else Ok (pos (length bytes), written m write.at bytes))
     by_test true = refl
-    by_test false = written_stays m write.at bytes
+    by_test false = length-written m write.at bytes
 
 number_stays : (m : List ℕ) (number : OrCode ℤ) → Stays m (number >>= λ n. Ok (n, m))
 number_stays m (Ok n) = refl

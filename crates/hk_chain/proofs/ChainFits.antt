@@ -14,6 +14,7 @@ use Rattle.hk_draft.specs.Ends.{Chained, ChainFits}
 use Rattle.hk_draft.specs.Reads.{reads_emitted}
 use Rattle.hk_draft.specs.Writers.{MayWriteBy, IsWriter, HookRan, IsHook, IsHookOf}
 use Rattle.hk_draft.proofs.Extended.{extends_itself, extends_further, extends_weaker, others_itself, others_further}
+use Rattle.hk_draft.proofs.Somewhere.{some-front}
 use Rattle.hk_draft.proofs.Extended.{each-append}
 use Rattle.hk_api_parts.specs.declared.setting.Setting.{Setting}
 use Rattle.hk_api.specs.Leads.{CallsLead}
@@ -24,11 +25,6 @@ use Rattle.hk_chain.specs.Laws.{ChainsFit, ChainsShow, IsHookOn, lines_of}
 use Rattle.hk_chain.proofs.Fitting.{RunFits, run_fits}
 use Rattle.hk_chain.proofs.Turns.{hook_start, HookPlayed, hooks_keep}
 use Rattle.hk_chain.proofs.Walking.{Adds}
-
-some_first : {X : Type 0} (P : X → Type 0) (xs ys : List X) → SomeOf P xs → SomeOf P (xs ++ ys)
-some_first P [] ys h = absurd h
-some_first P (x ∷ xs) ys (inl here) = inl here
-some_first P (x ∷ xs) ys (inr later) = inr (some_first P xs ys later)
 
 some_last : {X : Type 0} (P : X → Type 0) (xs : List X) (y : X) → P y → SomeOf P (xs ++ y ∷ [])
 some_last P [] y h = inl h
@@ -50,7 +46,7 @@ module _ (setting : Setting) (number : ℕ) (before : Entries) (account : Accoun
   writer_stays records more q w = record {
     account = w.account;
     position = w.position;
-    ran = some_first (IsHookOf w.account w.position) records more w.ran;
+    ran = some-front (IsHookOf w.account w.position) records more w.ran;
     hash = w.hash;
     at = w.at;
     may = w.may;

@@ -1,6 +1,6 @@
 -- What is kept of programs, as more of them are checked.
 use Rattle.std.proofs.Common.{◌≡◌, ◌∙◌, ℕ, Bool, true, false, cond, List, Option, Some, None, refl, sym, ap, subst}
-use Rattle.std.specs.Prelude.{◌⊎◌, is_some, option_map, IfOk, OnErr, OnOk, Result, Ok, Err}
+use Rattle.std.specs.Prelude.{◌⊎◌, is_some, option_map, OnErr, OnOk, Result, Ok, Err}
 use Rattle.std.proofs.Common.{inl, inr}
 use Rattle.std.specs.FinMap as map
 use Rattle.std.proofs.lemmas.Option.{same_Some}
@@ -58,14 +58,6 @@ module _ (kept : Kept) (at : Key) (held : Held) where
 pub either : {A E P Q : Type 0} (r : Result A E) → OnOk r P → OnErr r Q → P ⊎ Q
 either (Ok a) p q = inl p
 either (Err e) p q = inr q
-
-pub if_ok : {A E : Type 0} (r : Result A E) (P Q : A → Type 0) → ((a : A) → P a → Q a) → IfOk r P → IfOk r Q
-if_ok (Ok a) P Q f p = f a p
-if_ok (Err e) P Q f p = tt
-
-pub on_ok : {A E P Q : Type 0} (r : Result A E) → (P → Q) → OnOk r P → OnOk r Q
-on_ok (Ok a) f p = f p
-on_ok (Err e) f p = tt
 
 pub nothing : {A B : Type 0} (f : A → B) (o : Option A) (found : Option B) → option_map f o ≡ found → is_some o ≡ false →
     found ≡ None

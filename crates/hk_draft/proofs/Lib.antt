@@ -2,3 +2,4 @@ pub mod Extended
 pub mod Granted
 pub mod Drafting
 pub mod Waiting
+pub mod Somewhere

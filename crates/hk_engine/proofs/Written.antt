@@ -1,9 +1,9 @@
 -- A write at a State key and an emission keep the limits of ledgers.
 use Rattle.std.proofs.Common.{◌≡◌, ◌∙◌, sym, subst, refl, arith, ℕ, ◌+◌, ◌-◌, ◌*◌, ◌≤◌, ◌<◌, inl, inr, Bool, true}
-use Rattle.std.proofs.Common.{false, cond, nat_lt, if◌then◌else◌, List, [], ◌∷◌, length, Option, Some, None}
+use Rattle.std.proofs.Common.{false, cond, nat_lt, List, [], ◌∷◌, length, Option, Some, None}
 use Rattle.std.specs.Option.{option_map_or}
 use Rattle.std.specs.FinMap.{get}
-use Rattle.std.proofs.lemmas.Bool.{and_cases, and_parts, cases_order, ltb-false}
+use Rattle.std.proofs.lemmas.Bool.{and_cases, cases_order, ltb-false}
 use Rattle.std.proofs.lemmas.List.{length-append}
 use Rattle.std.proofs.lemmas.Option.{same_Some}
 use Rattle.hk_base.specs.declared.ids.AccountId.{AccountId}
@@ -16,14 +16,13 @@ use Rattle.hk_state.specs.Keys.{is_key, as_key}
 use Rattle.hk_state.specs.Balances.{balances, held_most}
 use Rattle.hk_state.specs.Entries.{Entries, write, get-write}
 use Rattle.hk_state.specs.Holdings.{holding_at}
-use Rattle.hk_state.specs.Least.{is_from}
-use Rattle.hk_state.specs.Reserves.{reserve, unit_reserve, units_in, units_of, first_state, is_own, are_beside}
-use Rattle.hk_state.specs.Sums.{sum, part, sum-write}
+use Rattle.hk_state.specs.Reserves.{reserve, unit_reserve, units_in, units_of, first_state, is_own}
+use Rattle.hk_state.specs.Sums.{sum, sum-write}
 use Rattle.hk_draft.specs.Draft.{Draft, change_to, write_state, emits_too}
 use Rattle.hk_draft.specs.Reads.{reads_emitted}
 use Rattle.hk_draft.proofs.Extended.{extends_state}
-use Rattle.hk_draft.proofs.Granted.{same_account}
 use Rattle.hk_api.specs.States.{added_units, balance_at, lacks_reserve}
+use Rattle.hk_api.proofs.Reserving.{counted, own_account, part_is}
 use Rattle.hk_events.specs.Complete.{IsSized, AreSized, most_bytes}
 use Rattle.hk_events.specs.Limits.{AreWithin, most_number}
 use Rattle.hk_engine.specs.Kept.{KeepsLimits}
@@ -69,27 +68,6 @@ covered m owner added most reaches sum some =
           omega (arith, has, held, sum)
     ]
 
--- the units of what stands at a key, of an account's own keys
-abbrev counted : Bool → Option Entry → ℕ
-counted own found = if own then option_map_or units_in found 0 else 0
-
-zero_more : (n : ℕ) → 0 + n ≡ n
-zero_more n = omega arith
-
-none_counted : (own : Bool) → 0 ≡ counted own None
-none_counted true = refl
-none_counted false = refl
-
-part_counted : (id : AccountId) (q : StateKey) (found : Option Entry) →
-    part (units_of id) (as_key q) found ≡ counted (is_own (first_state id) (as_key q)) found
-part_counted id q None = none_counted (is_own (first_state id) (as_key q))
-part_counted id q (Some e) = zero_more (counted (is_own (first_state id) (as_key q)) (Some e))
-
-own_account : (id : AccountId) (q : StateKey) → is_own (first_state id) (as_key q) ≡ true → id ≡ q.owner
-own_account id q own =
-    same_account id q.owner
-    (and_parts (is_from (first_state id) (as_key q)) (are_beside (first_state id) (as_key q)) own).1
-
 -- from what an account owns before and after, and from what comes and goes at the key
 reserve_after : (new old after now most : ℕ) → after + old ≡ now + new → 10000000 + 2000000 * now ≤ most →
     (1 ≤ new - old → 10000000 + 2000000 * now + 2000000 * (new - old) ≤ most) → 10000000 + 2000000 * after ≤ most
@@ -112,8 +90,8 @@ module _ (m : Entries) (q : StateKey) (change : Option Entry) (most : ℕ) (sums
       ≡ sum (units_of id) m + counted (is_own (first_state id) (as_key q)) change
   written_units id =
       let all = sum-write (units_of id) m (as_key q) change in
-      let old = part_counted id q (get m (as_key q)) in
-      let new = part_counted id q change in
+      let old = part_is id q (get m (as_key q)) in
+      let new = part_is id q change in
       omega (arith, all, old, new)
 
   within_at : (id : AccountId) (own : Bool) → is_own (first_state id) (as_key q) ≡ own →

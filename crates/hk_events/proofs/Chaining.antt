@@ -10,9 +10,9 @@ use Rattle.hk_draft.specs.Ends.{ChainEnd, kept, rejected, Chained, ChainFits}
 use Rattle.hk_draft.specs.Extends.{Extends}
 use Rattle.hk_draft.specs.Writers.{IsWriter, HookRan, IsHook, IsHookOf}
 use Rattle.hk_draft.proofs.Extended.{each-append, extends_itself, extends_further, extends_weaker, others_itself, others_further}
+use Rattle.hk_draft.proofs.Somewhere.{some-front, some-behind}
 use Rattle.hk_events.specs.Complete.{AreSized, SizesFit}
 use Rattle.hk_events.specs.Chains.{behind, onward, chains}
-use Rattle.hk_events.proofs.Words.{some-front, some-behind}
 
 -- a writer by more runs
 pub writer_by : (before : Entries) (Ran More : AccountId → ℕ → Type 0) →

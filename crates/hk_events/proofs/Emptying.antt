@@ -15,7 +15,7 @@ cut_at : (b : Bool) (found : Option Entry) → b ≡ true → cond b None found 
 cut_at true found h = refl
 cut_at false found h = cc
 
-cut_none : (b : Bool) (found : Option Entry) → found ≡ None → cond b None found ≡ None
+pub cut_none : (b : Bool) (found : Option Entry) → found ≡ None → cond b None found ≡ None
 cut_none true found h = refl
 cut_none false found h = h
 

@@ -21,6 +21,7 @@ use Rattle.hk_draft.specs.Draft.{Draft, draft_on, relisted, is_listed}
 use Rattle.hk_draft.specs.Extends.{Extends, Emits, HoldsState, KeepsOthers, is_state}
 use Rattle.hk_draft.specs.Writers.{IsWriter, HookRan, CallbackRan, IsHook, IsCallback, IsHookOf, IsCallbackOf}
 use Rattle.hk_draft.proofs.Extended.{each-append}
+use Rattle.hk_draft.proofs.Somewhere.{some-front, some-behind}
 use Rattle.hk_events.specs.Lists.{counted, last_of}
 use Rattle.hk_events.specs.Printed.{state_lines, emit_lines}
 use Rattle.hk_events.specs.Events.{Event, entered, with_queued, kept_lines}
@@ -29,7 +30,7 @@ use Rattle.hk_events.specs.Confined.{HasKept, IsConfined}
 use Rattle.hk_events.specs.Whole.{HasFailed, change_of, IsQueuedIn, is_emission, is_emit, is_settled, until_callback, IsQuiet, is_plain, is_account}
 use Rattle.hk_events.specs.Good.{IsQueueGood}
 use Rattle.hk_events.specs.Laws.{Holds}
-use Rattle.hk_events.proofs.Words.{counted-append, last_of-append, each-map, some-front, some-behind, or_none}
+use Rattle.hk_events.proofs.Words.{counted-append, last_of-append, each-map, or_none}
 use Rattle.hk_events.proofs.Telling.{IsRecord, IsFront, hook_record, callback_record, front_told, front_emissions, kept_emissions, kept_emit, kept_settled, heard, kept_told}
 use Rattle.hk_events.proofs.Queueing.{is_numbered, queue_others, queue_sum, queue_below, queue_silent, queue_lines, emit_lines-append, good_queue, front_queued, kept_queued}
 use Rattle.hk_events.proofs.Chaining.{writer_by}

@@ -1,7 +1,7 @@
 -- Words over lists: joined lists, and items of a kind.
-use Rattle.std.proofs.Common.{◌≡◌, ◌+◌, inl, inr, Bool, false, List, [], ◌∷◌, ◌++◌, refl, sym, ap, ◌∙◌, arith, Option, Some, None}
+use Rattle.std.proofs.Common.{◌≡◌, ◌+◌, Bool, false, List, [], ◌∷◌, ◌++◌, refl, sym, ap, ◌∙◌, arith, Option, Some, None}
 use Rattle.std.specs.Option.{option_or}
-use Rattle.hk_draft.specs.Lists.{Each, SomeOf}
+use Rattle.hk_draft.specs.Lists.{Each}
 use Rattle.hk_events.specs.Lists.{one_if, counted, last_of}
 
 pub counted-append : {X : Type 0} (test : X → Bool) (xs ys : List X) → counted test (xs ++ ys) ≡ counted test xs + counted test ys
@@ -25,15 +25,6 @@ last_of-append f (x ∷ xs) ys =
 pub each-map : {X : Type 0} (P Q : X → Type 0) → ((x : X) → P x → Q x) → (xs : List X) → Each P xs → Each Q xs
 each-map P Q f [] h = tt
 each-map P Q f (x ∷ xs) h = (f x h.0, each-map P Q f xs h.1)
-
-pub some-front : {X : Type 0} (P : X → Type 0) (xs ys : List X) → SomeOf P xs → SomeOf P (xs ++ ys)
-some-front P [] ys h = absurd h
-some-front P (x ∷ xs) ys (inl here) = inl here
-some-front P (x ∷ xs) ys (inr later) = inr (some-front P xs ys later)
-
-pub some-behind : {X : Type 0} (P : X → Type 0) (xs ys : List X) → SomeOf P ys → SomeOf P (xs ++ ys)
-some-behind P [] ys h = h
-some-behind P (x ∷ xs) ys h = inr (some-behind P xs ys h)
 
 -- items of which f gives nothing, or that don't pass
 pub none_last : {X Y : Type 0} (f : X → Option Y) (xs : List X) → Each (λ x. f x ≡ None) xs → last_of f xs ≡ None

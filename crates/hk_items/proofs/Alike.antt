@@ -1,6 +1,5 @@
 -- Answers to items and what they mean, step by step; and engines that check and reserve alike.
-use Rattle.std.proofs.Common.{◌≡◌, ◌∙◌, ap, sym, refl, subst, arith, ℕ, zero, suc, ◌+◌, ◌<◌, ◌≤◌, true, false, if◌then◌else◌, nat_lt, List, [], ◌∷◌, length, drop, get_or}
-use Rattle.std.proofs.lemmas.List.{drop_more}
+use Rattle.std.proofs.Common.{◌≡◌, ◌∙◌, ap, sym, refl, subst, ℕ, ◌+◌, ◌≤◌, true, false, if◌then◌else◌, nat_lt, List, [], ◌∷◌, drop}
 use Rattle.hk_base.specs.declared.ids.AccountId.{AccountId}
 use Rattle.xo_object.specs.declared.transaction.HookItem.{HookItem}
 use Rattle.xo_object.specs.declared.transaction.HookItem.TheVariants as item
@@ -15,7 +14,6 @@ use Rattle.hk_state.specs.Holdings.{holding_at}
 use Rattle.hk_state.specs.Reserves.{reserve}
 use Rattle.hk_state.specs.Writes.{Writes, with_writes}
 use Rattle.hk_draft.specs.Draft.{Draft}
-use Rattle.hk_draft.specs.Lists.{Each}
 use Rattle.hk_draft.specs.Drafted.{draft_of}
 use Rattle.hk_events.specs.Engine.{Engine}
 use Rattle.hk_events.specs.Items.{ItemEnd, leaves, stops, item_end, items_end, hooks_end, then_items, created, is_occupied, reserved, is_short, balance_of}
@@ -90,17 +88,6 @@ module _ (m : Entries) (es : List Emission) where
   no_more owner position items none w start left =
       subst (Means m es (Kept w)) (ap (λ xs. items_end plain owner position xs (draft_of m w es)) (sym none)
       ∙ left) refl
-
--- one of a list that all are right
-pub each_at : {X : Type 0} (P : X → Type 0) (xs : List X) (i : ℕ) (x : X) → i < length xs → x ≡ get_or xs i x →
-    Each P xs → P x
-each_at P [] i x h is each = absurd (omega (arith, h))
-each_at P (y ∷ xs) zero x h is each = subst P (sym is) each.0
-each_at P (y ∷ xs) (suc i) x h is each = each_at P xs i x (omega (arith, h)) is each.1
-
-pub at_item : (items : List HookItem) (i : ℕ) (x : HookItem) → i < length items → x ≡ get_or items i x →
-    drop i items ≡ x ∷ drop (i + 1) items
-at_item items i x h is = drop_more items i x h ∙ ap (λ y. y ∷ drop (i + 1) items) (sym is)
 
 module _ (e : Engine) (checks : e.checks ≡ checked_in) (reserves : e.reserve ≡ reserve) (owner : AccountId) where
   item_alike : (position : ℕ) (i : HookItem) (d : Draft) →

@@ -1,5 +1,5 @@
 -- What a settlement keeps, by rules with their laws.
-use Rattle.std.proofs.Common.{◌≡◌, ◌∙◌, ℕ, ◌+◌, ◌<◌, ◌≤◌, ◌^◌, Bool, true, false, cond, if◌then◌else◌, List, [], sym, ap, arith, refl}
+use Rattle.std.proofs.Common.{◌≡◌, ◌∙◌, ℕ, ◌+◌, ◌<◌, ◌≤◌, ◌^◌, Bool, true, false, if◌then◌else◌, List, [], sym, ap, arith, refl}
 use Rattle.std.proofs.Common.{Option, Some, None, nat_lt}
 use Rattle.std.specs.FinMap.{get, remove, get-remove}
 use Rattle.hk_base.specs.declared.ids.AccountId.{AccountId}
@@ -26,6 +26,7 @@ use Rattle.hk_events.specs.Results.{emitted}
 use Rattle.hk_events.specs.Settled as defined
 use Rattle.hk_events.specs.Settled.{answered, argument, called_back, expired, performed_as, settled, settled_entry, settlement, sender_at, without}
 use Rattle.hk_events.proofs.Applying.{queue_aside}
+use Rattle.hk_events.proofs.Emptying.{cut_none}
 use Rattle.hk_events.proofs.Queueing.{queue_below, queue_others}
 use Rattle.hk_events.proofs.Settling.{settled_law, settlement_takes}
 use Rattle.hk_events.proofs.Staying.{stays_law, within_law}
@@ -52,10 +53,6 @@ steady ledger opening whole =
 record Keeps (ledger : LedgerValue) (m : Entries) : Type 0 where
   pub stay : DefinitionsStay ledger.entries m
   pub none : get m (key.Emitted 0) ≡ None
-
-cut_none : (b : Bool) (found : Option Entry) → found ≡ None → cond b None found ≡ None
-cut_none true found none = refl
-cut_none false found none = none
 
 module _ (e : Engine) (lawful : IsLawful e) (ledger : LedgerValue) (none : get ledger.entries (key.Emitted 0) ≡ None)
     (number : ℕ) where

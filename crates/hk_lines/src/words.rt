@@ -8,6 +8,10 @@ use std::alloc::Global;
 use std::str;
 
 /// The number of a word in decimal, without sign and leading zeros, from `least` to `most`.
+///
+/// # Errors
+///
+/// Want of memory alone.
 pub fn read_number(
     alloc: Global,
     least: u64,
@@ -39,6 +43,10 @@ pub(crate) fn read_sized<const N: usize>(word: &[u8]) -> Option<[u8; N]>
 }
 
 /// The bytes of a word in hex digits of either case, where there is one.
+///
+/// # Errors
+///
+/// Want of memory alone.
 pub fn read_bytes(alloc: Global, word: &[u8]) -> Result<Option<Items<u8>>, NoMemory>
     ensures bytes { IfOk result (λ found. found ≡ some_bytes_of word.now) }
 {
@@ -52,6 +60,10 @@ pub fn read_bytes(alloc: Global, word: &[u8]) -> Result<Option<Items<u8>>, NoMem
 }
 
 /// The words of a line, which are separated by one space each.
+///
+/// # Errors
+///
+/// Want of memory alone.
 pub fn split_words<'a>(alloc: Global, line: &'a [u8]) -> Result<Vec<&'a [u8]>, NoMemory>
     ensures words { IfOk result (λ words. map (λ word. word.now) words.items ≡ words_of line.now) }
 {

@@ -1,5 +1,5 @@
 -- What a transaction comes to, by what its parts come to.
-use Rattle.std.proofs.Common.{◌≡◌, ◌∙◌, ℕ, ◌==◌, Bool, true, false, List, [], ◌∷◌, ◌++◌, append-nil, length, refl, sym, ap, subst, Option, Some, None, Result, Ok, Err, IfOk, if◌then◌else◌}
+use Rattle.std.proofs.Common.{◌≡◌, ◌∙◌, ℕ, ◌==◌, Bool, true, false, List, [], ◌++◌, append-nil, refl, sym, ap, subst, Option, Some, None, Result, Ok, Err, IfOk, if◌then◌else◌}
 use Rattle.std.specs.declared.alloc.AllocError.{AllocError}
 use Rattle.hk_base.specs.declared.ids.AccountId.{AccountId}
 use Rattle.xo_object.specs.declared.transaction.Transaction.{Transaction}
@@ -74,10 +74,6 @@ kept_is m es w (leaves d) same = ap leaves (sym same)
 kept_is m es w (stops name) means = absurd means
 
 -- ---- chains
-
-pub no_items : {X : Type 0} (xs : List X) → length xs ≡ 0 → xs ≡ []
-no_items [] h = refl
-no_items (x ∷ xs) h = cc
 
 rejected_is : (m : Entries) (records : List OutputLine) (x : ChainEnd) → EndMeans m x (found.Rejected records) → x ≡ ends.rejected records
 rejected_is m records (ends.kept d lines) means = absurd means

@@ -12,6 +12,11 @@ pub record Finds {A : Type 0} (P : A → Type 0) (o : Option A) : Type 0 where
   pub sound : (x : A) → o ≡ Some x → P x
   pub complete : (x : A) → P x → o ≡ Some x
 
+-- what can't be isn't found
+pub unfound : {A : Type 0} (P : A → Type 0) (o : Option A) → Finds P o → ((x : A) → P x → ⊥) → o ≡ None
+unfound P None f never = refl
+unfound P (Some x) f never = absurd (never x (f.sound x refl))
+
 pub only_if_some : {A : Type 0} (b : Bool) (o : Option A) (x : A) → only_if b o ≡ Some x → (b ≡ true) × (o ≡ Some x)
 only_if_some true o x e = (refl, e)
 only_if_some false o x e = none_some x e

@@ -5,4 +5,4 @@ mod laws;
 mod reading;
 
 pub use laws::{reads_one_way, transactions_found};
-pub use reading::{Reading, read};
+pub use reading::{Reading, object_of, read};

@@ -1,7 +1,9 @@
 //! What the bytes of a transaction read as.
 ghost use Rattle.std.specs.Prelude.{◌≡◌, ◌<◌, ◌≤◌, length, Ok, IfOk, IfSome, IfNone, IsTrue, IsFalse};
+ghost use Rattle.std.specs.Option.{option_map};
 ghost use Rattle.xo_list.specs.Span.{items};
 ghost use Rattle.xo_list.specs.Value.{IsObject, HasFields};
+ghost use Rattle.hk_reading.specs.Parsing.{fields_of};
 ghost use Rattle.hk_reading.specs.Readings.{Reads, IsCountable, longest};
 ghost use Rattle.hk_reading.specs.Reading.{reading};
 
@@ -64,7 +66,12 @@ fn is_too_long(bytes: &[u8]) -> bool
 }
 
 /// The object that bytes are, if they are one.
-fn object_of(alloc: Global, bytes: &[u8]) -> Result<Option<Object>, NoMemory>
+///
+/// # Errors
+///
+/// Want of memory alone.
+pub fn object_of(alloc: Global, bytes: &[u8]) -> Result<Option<Object>, NoMemory>
+    ensures found { IfOk result (λ found. option_map items found ≡ fields_of bytes.now) }
     ensures some { IfOk result (λ found. IfSome found (λ object. IsObject (items object) bytes.now)) }
     ensures same { IfOk result (λ found. IfSome found (λ object. object.bytes ≡ bytes.now)) }
     ensures none { IfOk result (λ found. IfNone found (HasFields bytes.now → ⊥)) }

@@ -1,8 +1,7 @@
 -- Going over flat code finds the loops of its tree.
-use Rattle.std.proofs.Common.{ℕ, ◌≡◌, ◌+◌, ◌<◌, ◌≤◌, suc, zero, List, [], ◌∷◌, ◌++◌, ◌∙◌, Bool, true, false, Option, Some, None, refl, sym, ap, ap₂, subst, length, get_or, drop, add-one, length-append, arith}
+use Rattle.std.proofs.Common.{ℕ, ◌≡◌, ◌+◌, ◌<◌, ◌≤◌, suc, zero, List, [], ◌∷◌, ◌++◌, ◌∙◌, Bool, true, false, Option, Some, None, refl, sym, ap, ap₂, length, get_or, drop, length-append, arith}
 use Rattle.std.specs.Prelude.{slice_get, map, option_map}
 use Rattle.std.proofs.lemmas.List.{append_assoc, append-nil}
-use Rattle.std.proofs.Math.Seq.{drop-cons}
 use Rattle.std.proofs.Math.ListN.{drop_of_length-le}
 use Rattle.wa_ops.specs.declared.modules.Code.{Code}
 use Rattle.wa_ops.specs.declared.op.Op.{Op}
@@ -11,8 +10,8 @@ use Rattle.wa_ops.specs.Bound.{loops}
 use Rattle.wa_ops.specs.Ends.{behind}
 use Rattle.wa_ops.specs.HookRules.{is_loop}
 use Rattle.wa_ops.specs.Sequences.{Sequence, done, plain, block, loop, if_then, if_else, Nesting, opens_block, opens_loop, opens_if, turns, closes, nesting, stands, IsTree, flat, Reads, IsNested}
-use Rattle.wa_ops.specs.Soundness.{Each}
 use Rattle.wa_ops.proofs.Parsing.{found_tree}
+use Rattle.wa_ops.proofs.Places.{read_drop}
 use Rattle.hk_rules.specs.declared.guards.LoopGuard.{LoopGuard}
 use Rattle.hk_rules.specs.declared.guards.FunctionGuards.{FunctionGuards}
 use Rattle.hk_rules.specs.Loops.{loop_guard, loop_guards, innermost, body_guards, code_guards}
@@ -101,9 +100,6 @@ marks_flat (if_else result first second rest) inner around count after tree =
 
 -- ---- the loops over flat code
 
-pub at_op : (ops : List Op) (i : ℕ) (op : Op) → i < length ops → op ≡ get_or ops i op → drop i ops ≡ op ∷ drop (i + 1) ops
-at_op ops i op h e = drop-cons ops i op h ∙ ap (λ x. x ∷ drop (suc i) ops) (sym e) ∙ ap (λ n. op ∷ drop n ops) (sym (add-one i))
-
 pub get_dropped : (ops : List Op) (n k : ℕ) → slice_get (drop n ops) k ≡ slice_get ops (n + k)
 get_dropped ops zero k = let e : k ≡ 0 + k = omega arith in ap (slice_get ops) e
 get_dropped [] (suc n) k = let e : suc (n + k) ≡ suc n + k = omega arith in ap (slice_get []) e
@@ -122,7 +118,7 @@ found_here : (ops : List Op) (i : ℕ) (op : Op) (guard : LoopGuard) (b : Bool) 
 found_here ops i op guard b h e is g =
     let one : slice_get (drop (i + 1) ops) 0 ≡ slice_get ops (i + 1) = get_dropped ops (i + 1) 0 ∙ (let n : i + 1 + 0 ≡ i + 1 = omega arith in ap (slice_get ops) n) in
     let two : slice_get (drop (i + 1) ops) 1 ≡ slice_get ops (i + 2) = get_dropped ops (i + 1) 1 ∙ (let n : i + 1 + 1 ≡ i + 2 = omega arith in ap (slice_get ops) n) in
-    ap (λ os. found_loops os i) (at_op ops i op h e)
+    ap (λ os. found_loops os i) (read_drop ops i op h e)
     ∙ ap₂ (λ x y. put_loop (is_loop op) (guard_by i (number_in x) (number_in y)) (found_loops (drop (i + 1) ops) (i + 1))) one two
     ∙ ap₂ (λ x y. put_loop x y (found_loops (drop (i + 1) ops) (i + 1))) is (sym g)
 
@@ -159,7 +155,7 @@ pub marked_next : (ops : List Op) (i : ℕ) (op : Op) (found : List (Option ℕ)
     → Marked ops i found here → Marked ops (i + 1) (found ++ here.inner ∷ []) (passed (nesting op) here)
 marked_next ops i op found here h e before = record {
   all = append_assoc found (here.inner ∷ []) (marks (drop (i + 1) ops) (passed (nesting op) here))
-      ∙ ap (λ os. found ++ marks os here) (sym (at_op ops i op h e)) ∙ before.all;
+      ∙ ap (λ os. found ++ marks os here) (sym (read_drop ops i op h e)) ∙ before.all;
   few = let n : here.count ≤ i = before.few in omega (arith, n, passed_few (nesting op) here);
 }
 
@@ -179,14 +175,6 @@ pub push_guards : (functions : List FunctionGuards) (guards : FunctionGuards) (m
 push_guards [] guards more = refl
 push_guards (first ∷ functions) guards more = ap (λ xs. Some first ∷ xs) (push_guards functions guards more)
 
-pub each_at : {A : Type 0} (P : A → Type 0) (xs : List A) (i : ℕ) (x : A) → i < length xs → x ≡ get_or xs i x → Each P xs → P x
-each_at P [] i x h e each = absurd (omega (arith, h))
-each_at P (y ∷ xs) zero x h e each = subst P (sym e) each.0
-each_at P (y ∷ xs) (suc i) x h e each = each_at P xs i x (omega (arith, h)) e each.1
-
-pub at_code : (codes : List Code) (i : ℕ) (code : Code) → i < length codes → code ≡ get_or codes i code → drop i codes ≡ code ∷ drop (i + 1) codes
-at_code codes i code h e = drop-cons codes i code h ∙ ap (λ x. x ∷ drop (suc i) codes) (sym e) ∙ ap (λ n. code ∷ drop n codes) (sym (add-one i))
-
 pub gathered_next : (codes : List Code) (i : ℕ) (code : Code) (guards : FunctionGuards) (functions : List FunctionGuards) → i < length codes → code ≡ get_or codes i code
     → IsNested code.ops → ((body : Sequence) → Reads code.ops body → guards ≡ body_guards body)
     → Gathered codes i functions → Gathered codes (i + 1) (functions ++ guards ∷ [])
@@ -194,7 +182,7 @@ gathered_next codes i code guards functions h e nested is before =
     push_guards functions guards (code_guards (drop (i + 1) codes))
     ∙ ap (λ o. map (λ x. Some x) functions ++ (o ∷ code_guards (drop (i + 1) codes)))
     (ap Some (is nested.0 nested.1) ∙ sym (ap (option_map body_guards) (found_tree code.ops nested.0 nested.1)))
-    ∙ ap (λ cs. map (λ x. Some x) functions ++ code_guards cs) (sym (at_code codes i code h e))
+    ∙ ap (λ cs. map (λ x. Some x) functions ++ code_guards cs) (sym (read_drop codes i code h e))
     ∙ before
 
 pub gathered_all : (codes : List Code) (i : ℕ) (functions : List FunctionGuards) → length codes ≤ i → Gathered codes i functions

@@ -1,5 +1,5 @@
 -- What the rows of imports say of calls.
-use Rattle.std.proofs.Common.{ℕ, ◌≡◌, ◌==◌, zero, suc, List, [], ◌∷◌, not, Bool, true, false, Some, refl, ap, length}
+use Rattle.std.proofs.Common.{ℕ, ◌≡◌, ◌==◌, zero, suc, List, [], ◌∷◌, not, Bool, true, false, Some, refl}
 use Rattle.std.specs.Prelude.{slice_get, is_some, is_none, if◌then◌else◌}
 use Rattle.std.specs.Option.{option_map_or}
 use Rattle.wa_ops.specs.declared.call_no.CallNo.{CallNo}
@@ -35,6 +35,3 @@ guard_row [] function = refl
 guard_row (row ∷ rows) zero = guard_of_row row.0
 guard_row (row ∷ rows) (suc function) = guard_row rows function
 
-pub length-callees : (rows : List CallNo) → length (callees rows) ≡ length rows
-length-callees [] = refl
-length-callees (row ∷ rows) = ap suc (length-callees rows)

@@ -12,7 +12,7 @@ use Rattle.hk_rules.specs.Imports.{rows_named, found_rows, AreRows}
 use Rattle.wa_ops.specs.Contexts.{callees}
 use Rattle.hk_rules.proofs.Entries.{one_hook}
 use Rattle.hk_rules.proofs.Least.{first_front, first_behind, kept_both}
-use Rattle.hk_rules.proofs.RowsOfCalls.{length-callees}
+use Rattle.wa_ops.proofs.Types.{length-callees}
 
 -- as many rows as imports
 pub as_many : (imports : List Import) (rows : List CallNo) → found_rows rows ≡ rows_named imports → length rows ≡ length imports

@@ -6,13 +6,7 @@ use Rattle.xo_list.specs.Span.{Seen, items}
 use Rattle.xo_object.specs.declared.transaction.Transaction.{Transaction}
 use Rattle.hk_reading.specs.Parsing.{fields_of}
 use Rattle.hk_reading.specs.Transactions.{transaction_of}
-use Rattle.hk_reading.proofs.Finding.{Finds}
 use Rattle.hk_settle.specs.Waits.{read_as}
-
--- what can't be isn't found
-pub unfound : {A : Type 0} (P : A → Type 0) (o : Option A) → Finds P o → ((x : A) → P x → ⊥) → None ≡ o
-unfound P None f never = cc
-unfound P (Some x) f never = absurd (never x (f.sound x cc))
 
 module _ (bytes : List ℕ) (found : Option Seen) (read : option_map items found ≡ fields_of bytes) where
   abbrev after : Option (List Item) → Option Transaction

@@ -4,8 +4,7 @@ use Rattle.std.proofs.Common.{append_assoc, append-nil, sym, ap, refl, Option, S
 use Rattle.std.specs.List.{slice_get}
 use Rattle.std.specs.Option.{option_map}
 use Rattle.std.proofs.Math.Seq.{drop-nil}
-use Rattle.std.proofs.lemmas.List.{drop_more}
-use Rattle.std.proofs.lemmas.Option.{slice_get_within, get_or_from_slice_get}
+use Rattle.wa_ops.proofs.Places.{got_drop}
 use Rattle.hk_lines.specs.declared.output_line.OutputLine.{OutputLine}
 use Rattle.hk_state.specs.declared.entry.Entry.{Entry}
 use Rattle.hk_state.specs.declared.key.Key.{Key}
@@ -14,13 +13,6 @@ use Rattle.hk_state.specs.Entries.{Entries}
 use Rattle.hk_state.specs.Rules.{state_keys}
 use Rattle.hk_state.specs.Writes.{Writes, write_at}
 use Rattle.hk_events.specs.Printed.{state_lines}
-
--- a list from a place on
-at_place : {X : Type 0} (xs : List X) (place : ℕ) (x : X) → slice_get xs place ≡ Some x →
-    drop place xs ≡ x ∷ drop (place + 1) xs
-at_place xs place x at =
-    drop_more xs place x (slice_get_within xs place x at)
-    ∙ ap (λ y. y ∷ drop (place + 1) xs) (get_or_from_slice_get xs place x x at)
 
 past_place : {X : Type 0} (xs : List X) (place : ℕ) → slice_get xs place ≡ None → drop place xs ≡ []
 past_place [] place at = drop-nil place
@@ -61,7 +53,7 @@ module _ (m : Entries) (keys : List Key) (place : ℕ) (lines whole : List Outpu
   next_state k at =
       append_assoc lines (state_lines m (state_keys (k ∷ []))) (state_lines m (state_keys (drop (place + 1) keys)))
       ∙ ap (λ more. lines ++ more) (sym (first_state m k (drop (place + 1) keys)))
-      ∙ ap (λ more. lines ++ state_lines m (state_keys more)) (sym (at_place keys place k at))
+      ∙ ap (λ more. lines ++ state_lines m (state_keys more)) (sym (got_drop keys place k at))
       ∙ is
 
   pub last_state : slice_get keys place ≡ None → lines ≡ whole

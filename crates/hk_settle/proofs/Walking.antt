@@ -2,42 +2,29 @@
 use Rattle.std.proofs.Common.{◌≡◌, ◌∙◌, ℕ, ◌+◌, ◌≤◌, ◌<◌, true, false, arith, refl, sym, ap, Option, Some, None}
 use Rattle.std.specs.declared.cmp.Ordering.{Ordering}
 use Rattle.std.specs.declared.cmp.Ordering.TheVariants.{Less, Equal, Greater}
-use Rattle.std.specs.Ordering.{nat_cmp, is_le, MatchOrdering}
-use Rattle.std.specs.Cmp.{ranks}
+use Rattle.std.specs.Ordering.{nat_cmp, MatchOrdering}
+use Rattle.std.specs.Cmp.{ranks, nat_cmp_is}
 use Rattle.std.specs.FinMap.{get}
+use Rattle.std.proofs.lemmas.Map.Keys.{le_from_is_le}
 use Rattle.hk_state.specs.declared.entry.Entry.{Entry}
 use Rattle.hk_state.specs.declared.key.Key.{Key}
 use Rattle.hk_state.specs.declared.key.Key.TheVariants as key
 use Rattle.hk_state.specs.Keys.{key_cmp}
 use Rattle.hk_state.specs.Least.{Least, LeastOf, IsLeast, is_from}
 use Rattle.hk_state.specs.Ledger.{LedgerValue}
+use Rattle.hk_state.proofs.Installing.{is_le_from_le}
 use Rattle.hk_events.specs.Laws.{DueAt}
 use Rattle.hk_events.specs.Settled.{is_due, passes}
 use Rattle.hk_settle.specs.Due.{IsNext, NoneFrom}
 
-le_by : (a b : ℕ) (o : Ordering) → MatchOrdering o (a < b) (a ≡ b) (b < a) → is_le o ≡ true → a ≤ b
-le_by a b Less r h = omega (arith, r)
-le_by a b Equal r h = omega (arith, r)
-le_by a b Greater r h = cc
-
-from_by : (a b : ℕ) (o : Ordering) → MatchOrdering o (a < b) (a ≡ b) (b < a) → a ≤ b → is_le o ≡ true
-from_by a b Less r h = refl
-from_by a b Equal r h = refl
-from_by a b Greater r h = absurd (omega (arith, r, h))
-
-less_by : (a b : ℕ) (o : Ordering) → MatchOrdering o (a < b) (a ≡ b) (b < a) → a < b → o ≡ Less
-less_by a b Less r h = refl
-less_by a b Equal r h = absurd (omega (arith, r, h))
-less_by a b Greater r h = absurd (omega (arith, r, h))
-
 from_number : (next n : ℕ) → next ≤ n → is_from (key.Emitted next) (key.Emitted n) ≡ true
-from_number next n h = from_by next n (nat_cmp next n) (ranks next n) h
+from_number = is_le_from_le
 
 number_from : (next n : ℕ) → is_from (key.Emitted next) (key.Emitted n) ≡ true → next ≤ n
-number_from next n h = le_by next n (nat_cmp next n) (ranks next n) h
+number_from = le_from_is_le
 
 number_less : (n number : ℕ) → n < number → key_cmp (key.Emitted n) (key.Emitted number) ≡ Less
-number_less n number h = less_by n number (nat_cmp n number) (ranks n number) h
+number_less n number h = sym (nat_cmp_is n number Less h)
 
 -- none is due from the first number up to this one
 pub record Ahead (ledger : LedgerValue) (from next : ℕ) : Type 0 where

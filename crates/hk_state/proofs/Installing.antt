@@ -1,5 +1,5 @@
 -- Where an account's next hook stands.
-use Rattle.std.proofs.Common.{◌≡◌, ◌≢◌, ◌∙◌, ℕ, ◌+◌, ◌≤◌, ◌<◌, arith, refl, sym, ap, ap₂, subst, Bool, true, false, ◌&&◌, List, Option, Some, None}
+use Rattle.std.proofs.Common.{◌≡◌, ◌≢◌, ◌∙◌, ℕ, ◌+◌, ◌≤◌, ◌<◌, arith, refl, sym, ap, ap₂, subst, true, false, ◌&&◌, List, Option, Some, None}
 use Rattle.std.specs.declared.cmp.Ordering.{Ordering}
 use Rattle.std.specs.declared.cmp.Ordering.TheVariants.{Less, Equal, Greater}
 use Rattle.std.specs.Ordering.{nat_cmp, is_eq, is_le, ordering_reverse, ordering_then, MatchOrdering}
@@ -7,7 +7,9 @@ use Rattle.std.specs.Cmp.{ranks, nat_cmp_is}
 use Rattle.std.specs.Cmp.Lexicographic.{same_text}
 use Rattle.std.specs.Str.{bytes_eq}
 use Rattle.std.specs.FinMap.{get}
+use Rattle.std.proofs.lemmas.Bool.{and_parts}
 use Rattle.std.proofs.lemmas.Cmp.{tied_itself}
+use Rattle.std.proofs.lemmas.Map.Keys.{le_from_is_le}
 use Rattle.std.proofs.lemmas.Map.Text.{is_eq-slice_cmp}
 use Rattle.hk_base.specs.declared.ids.AccountId.{AccountId}
 use Rattle.hk_state.specs.declared.key.Key.{Key}
@@ -20,22 +22,21 @@ use Rattle.hk_state.specs.Least.{IsLeast, Least, is_from}
 use Rattle.hk_state.specs.Reserves.{are_beside, is_own}
 use Rattle.hk_state.proofs.Owned.{together}
 
-le_cmp : (m n : ℕ) (order : Ordering) → MatchOrdering order (m < n) (m ≡ n) (n < m) → m ≤ n → is_le order ≡ true
-le_cmp m n Less rank le = refl
-le_cmp m n Equal rank le = refl
-le_cmp m n Greater rank le = absurd (omega (arith, rank, le))
-
-cmp_le : (m n : ℕ) (order : Ordering) → MatchOrdering order (m < n) (m ≡ n) (n < m) → is_le order ≡ true → m ≤ n
-cmp_le m n Less rank le = omega (arith, rank)
-cmp_le m n Equal rank le = omega (arith, rank)
-cmp_le m n Greater rank le = cc
+-- the converse of std's `le_from_is_le`
+pub is_le_from_le : (m n : ℕ) → m ≤ n → is_le (nat_cmp m n) ≡ true
+is_le_from_le m n le = at (nat_cmp m n) (ranks m n)
+  where
+    at : (order : Ordering) → MatchOrdering order (m < n) (m ≡ n) (n < m) → is_le order ≡ true
+    at Less rank = refl
+    at Equal rank = refl
+    at Greater rank = absurd (omega (arith, rank, le))
 
 -- two Installs of one account compare by their positions
 by_positions : (id : AccountId) (m n : ℕ) → key_cmp (Install id m) (Install id n) ≡ nat_cmp m n
 by_positions id m n = ap (λ order. ordering_then order (nat_cmp m n)) (tied_itself keys_total (Other id.0))
 
 pub from_position : (id : AccountId) (m n : ℕ) → m ≤ n → is_from (Install id m) (Install id n) ≡ true
-from_position id m n le = ap is_le (by_positions id m n) ∙ le_cmp m n (nat_cmp m n) (ranks m n) le
+from_position id m n le = ap is_le (by_positions id m n) ∙ is_le_from_le m n le
 
 below_position : (id : AccountId) (m n : ℕ) → m < n → key_cmp (Install id m) (Install id n) ≡ Less
 below_position id m n lt = by_positions id m n ∙ sym (nat_cmp_is m n Less lt)
@@ -45,10 +46,6 @@ same_bytes a = sym (is_eq-slice_cmp a a) ∙ ap is_eq (tied_itself keys_total (O
 
 own_position : (id : AccountId) (m n : ℕ) → m ≤ n → is_own (Install id m) (Install id n) ≡ true
 own_position id m n le = ap₂ (λ a b. a && b) (from_position id m n le) (same_bytes id.0)
-
-and_end : (a b : Bool) → (a && b) ≡ true → b ≡ true
-and_end true b is = is
-and_end false b is = cc
 
 module _ (m : Entries) (id : AccountId) (from : ℕ) where
   -- no entry is from the first key on
@@ -80,12 +77,11 @@ module _ (m : Entries) (id : AccountId) (from : ℕ) where
       first (subst (λ o. Least m (is_from (Install id from)) (Some (Install o position, e))) (sym same) least)
     where
       last : is_own (Install id from) (Install owner position) ≡ true → bytes_eq id.0 owner.0 ≡ true
-      last h = and_end (is_from (Install id from) (Install owner position)) (bytes_eq id.0 owner.0) h
+      last h = (and_parts (is_from (Install id from) (Install owner position)) (bytes_eq id.0 owner.0) h).1
 
       first : Least m (is_from (Install id from)) (Some (Install id position, e)) → IsFirst m id from position
       first least = record {
-        from_there = cmp_le from position (nat_cmp from position) (ranks from position)
-            (sym (ap is_le (by_positions id from position)) ∙ least.passes);
+        from_there = le_from_is_le from position (sym (ap is_le (by_positions id from position)) ∙ least.passes);
         there = λ none. let differ : Some e ≡ None = sym least.there ∙ none in cc;
         none_before = λ p le lt. least.none_before (Install id p) (from_position id from p le)
             (below_position id p position lt);

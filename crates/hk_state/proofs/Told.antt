@@ -1,19 +1,12 @@
 -- What an answer tells.
-use Rattle.std.proofs.Common.{◌≡◌, ◌∙◌, ap, sym, subst, refl, true, false, cond, Option, Some, None, is_some, IsSome, MatchOption, Result, Ok, Err, OnOk, OnErr, List, [], ◌∷◌, length, arith}
+use Rattle.std.proofs.Common.{◌≡◌, ◌∙◌, ap, sym, subst, refl, true, false, cond, Option, Some, None, is_some, IsSome}
+use Rattle.std.proofs.Common.{MatchOption, Result, Ok, Err, OnOk, OnErr}
 use Rattle.std.specs.FinMap.{get, insert, get-insert}
 use Rattle.hk_state.specs.declared.key.Key.{Key}
 use Rattle.hk_state.specs.declared.entry.Entry.{Entry}
 use Rattle.hk_state.specs.Keys.{is_key, keys_total, itself, exact}
 use Rattle.hk_state.specs.Entries.{Entries, change_or}
 use Rattle.hk_state.specs.Writes.{Writes, with_writes, get-with_writes}
-
-pub ok_map : {X E P Q : Type 0} (r : Result X E) → (P → Q) → OnOk r P → OnOk r Q
-ok_map (Ok x) f p = f p
-ok_map (Err e) f p = tt
-
-pub err_map : {X E P Q : Type 0} (r : Result X E) → (P → Q) → OnErr r P → OnErr r Q
-err_map (Ok x) f p = tt
-err_map (Err e) f p = f p
 
 -- a call that is refused only where there is nothing isn't refused
 pub certain : {X E A P : Type 0} (r : Result X E) (found : Option A) → OnOk r P → OnErr r (found ≡ None) →
@@ -61,7 +54,3 @@ unchanged m w key is = get-with_writes m w key ∙ ap (λ found. change_or found
 pub err_given : {X E P : Type 0} (r : Result X E) → P → OnErr r P
 err_given (Ok x) p = tt
 err_given (Err e) p = p
-
-pub no_items : {X : Type 0} (xs : List X) → length xs ≡ 0 → xs ≡ []
-no_items [] h = refl
-no_items (x ∷ xs) h = absurd (omega (arith, h))

@@ -9,13 +9,14 @@ use Rattle.hk_draft.specs.Ends.{IsOneCallback}
 use Rattle.hk_draft.specs.Lists.{Each, SomeOf}
 use Rattle.hk_draft.specs.Writers.{IsHook}
 use Rattle.hk_draft.proofs.Extended.{each-append}
+use Rattle.hk_draft.proofs.Somewhere.{some-front, some-behind}
 use Rattle.hk_events.specs.Lists.{counted}
 use Rattle.hk_events.specs.Printed.{state_lines, emit_lines}
 use Rattle.hk_events.specs.Events.{kept_lines}
 use Rattle.hk_events.specs.Whole.{is_emit, is_settled}
 use Rattle.hk_events.proofs.Queueing.{emit_lines-append}
 use Rattle.hk_events.proofs.Telling.{IsRecord, IsState, IsEmit, all_state, all_emit, kept_emit, records_emit}
-use Rattle.hk_events.proofs.Words.{counted-append, each-map, none_counted, some-front, some-behind}
+use Rattle.hk_events.proofs.Words.{counted-append, each-map, none_counted}
 use Rattle.hk_final.specs.Counted.{is_queued}
 use Rattle.hk_whole.specs.Accounts.{IsEmitted, AreAsEmitted, AreCalled}
 

@@ -86,7 +86,7 @@ short_text text bytes b h = record {
 
 -- ---- code
 
-float_sound : (form : Form) (opcode : ℕ) (bytes : List ℕ) → form_at opcode ≡ form → SpellsFloat form opcode bytes → IsSoundOp (Float opcode)
+pub float_sound : (form : Form) (opcode : ℕ) (bytes : List ℕ) → form_at opcode ≡ form → SpellsFloat form opcode bytes → IsSoundOp (Float opcode)
 float_sound forms.FloatAccess opcode bytes f h = inl f
 float_sound forms.FloatNumber opcode bytes f h = inr (inl f)
 float_sound forms.FloatConstant opcode bytes f h = inr (inr f)

@@ -15,9 +15,10 @@ use Rattle.wa_ops.specs.Callees.{Callee, guard, accept, rollback, host_call, tak
 use Rattle.wa_ops.specs.Opcodes.{among, is_load, is_store, is_number}
 use Rattle.wa_ops.specs.Typing.{known, Stack, loosened, push, pop, pop_all, pop_result, push_result, selected, changed, left_with, stored, all_carry, and_then, is_same_type, effect, types, Leaves}
 use Rattle.wa_num.specs.Memory.{fits, loaded, written, cells}
+use Rattle.wa_ops.proofs.Types.{same_type}
 use Rattle.wa_machine.specs.Machine.{Value, word32, word64, type_of, word_of, value_of, Region, Configuration, World, ended, fault, onward, with_some, with_value, with_all, first, second, third, text_of, end_with, counted, pass, call, numeric, finish, extended, load, store, branch, label_at, put_local, put_global, act}
 use Rattle.wa_machine.specs.Law.{types_of}
-use Rattle.wa_machine.proofs.Typed.{closed, On, on_and, on_any, on_if, on_word, on_all, on_changed, on_local, on_global, set_types, same_type, pushed_back, table_carries}
+use Rattle.wa_machine.proofs.Typed.{closed, On, on_and, on_any, on_if, on_word, on_all, on_changed, on_local, on_global, set_types, pushed_back, table_carries}
 use Rattle.wa_machine.proofs.Budget.{left, left_less}
 use Rattle.wa_machine.proofs.Sane.{labels_of, weight, GoodStep}
 use Rattle.wa_machine.proofs.Steps.{Vars, Standing, onward_good, branch_good, leave_good, CanLeave}

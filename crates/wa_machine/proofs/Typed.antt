@@ -4,6 +4,7 @@ use Rattle.std.proofs.lemmas.Bool.{and_parts as both_true}
 use Rattle.wa_ops.specs.declared.op.ValueType.{ValueType}
 use Rattle.wa_ops.specs.declared.op.ValueType.TheVariants.{I32, I64, F32, F64}
 use Rattle.wa_ops.specs.Typing.{Slot, known, Stack, GlobalType, is_same_type, and_then, pop, pop_all, pop_result, push, push_result, changed, is_empty, is_same_result, carries, all_carry}
+use Rattle.wa_ops.proofs.Types.{same_type}
 use Rattle.wa_machine.specs.Machine.{Value, word32, word64, type_of, value_of, Step, fault, with_some, with_word, with_all, taken_result, whole_result, label_at}
 use Rattle.wa_machine.specs.Law.{types_of, kinds_of}
 
@@ -22,13 +23,6 @@ On (Some a) Q = Q a
 pub on_and : {A B : Type 0} (o : Option A) (f : A → Option B) (Q : B → Type 0) → On (and_then o f) Q → On o (λ a. On (f a) Q)
 on_and None f Q h = absurd h
 on_and (Some a) f Q h = h
-
-pub same_type : (a b : ValueType) → is_same_type a b ≡ true → a ≡ b
-same_type I32 I32 h = refl
-same_type I64 I64 h = refl
-same_type F32 F32 h = refl
-same_type F64 F64 h = refl
-same_type a b h = absurd cc
 
 pub same_type_is : (a b : ValueType) → a ≡ b → is_same_type a b ≡ true
 same_type_is I32 b h = ap (is_same_type I32) (sym h)

@@ -4,3 +4,5 @@ pub mod Tables
 pub mod FinerBound
 pub mod RulesByName
 pub mod RowLemmas
+pub mod Places
+pub mod Types

@@ -1,5 +1,6 @@
 -- What each decoded module meets beyond its types, and what calls need that take flat code or a module.
-use Rattle.std.specs.Prelude.{◌≡◌, ◌^◌, ◌<◌, ◌≤◌, ◌⊎◌, List, [], ◌∷◌, length}
+use Rattle.std.specs.List.{AllByRecursion}
+use Rattle.std.specs.Prelude.{◌≡◌, ◌^◌, ◌<◌, ◌≤◌, ◌⊎◌, List, length}
 use Rattle.wa_ops.specs.Opcodes.{form_at}
 use Rattle.wa_ops.specs.Sequences.{IsNested}
 use Rattle.wa_ops.specs.declared.modules.Code.{Code}
@@ -17,9 +18,9 @@ use Rattle.wa_ops.specs.declared.opcode.Form.TheVariants as forms
 abbrev pub IsCounted : {A : Type 0} → List A → Type 0
 IsCounted xs = length xs < 2 ^ 32
 
+-- each item of a list is sound
 abbrev pub Each : {A : Type 0} → (A → Type 0) → List A → Type 0
-Each Holds [] = Unit {0}
-Each Holds (x ∷ xs) = Holds x × Each Holds xs
+Each Holds xs = AllByRecursion Holds xs
 
 -- a counted list of items that are sound
 pub record AreSound {A : Type 0} (Holds : A → Type 0) (xs : List A) : Type 0 where

@@ -1,10 +1,10 @@
 -- Loads and stores on words, against those on typed operands.
-use Rattle.std.proofs.Common.{◌≡◌, ◌+◌, ◌^◌, ◌<◌, ◌≤◌, ◌==◌, ◌||◌, ℕ, List, [], ◌∷◌, ◌++◌, Some, None, Bool, true, false, IsTrue, if◌then◌else◌, length, take, drop, sym, ◌∙◌, ap, subst, refl, arith}
+use Rattle.std.proofs.Common.{◌≡◌, ◌+◌, ◌^◌, ◌<◌, ◌≤◌, ◌==◌, ◌||◌, ℕ, List, [], ◌∷◌, ◌++◌, Some, None, Bool, true, false, IsTrue, if◌then◌else◌, length, sym, ◌∙◌, ap, subst, refl, arith}
 use Rattle.std.proofs.lemmas.Bool.{leb-true, le-leb}
-use Rattle.std.proofs.lemmas.List.{length-append, length-take-le, length-drop}
 use Rattle.hk_base.specs.declared.outcome.Outcome.TheVariants.{Trapped}
 use Rattle.hk_base.specs.declared.outcome.Trap.TheVariants as trap
 use Rattle.wa_num.specs.Memory.{fits, loaded, cells, written}
+use Rattle.wa_num.proofs.Lengths.{length-written}
 use Rattle.wa_ops.specs.declared.op.Op.TheVariants as op
 use Rattle.wa_ops.specs.declared.op.ValueType.TheVariants.{I32, I64}
 use Rattle.wa_ops.specs.declared.opcode.Form.TheVariants as forms
@@ -134,19 +134,6 @@ store_passes {S} n at word region around operands c h = test (fits c.memory at (
     test true e = absurd (h (leb-true (at + store_width n) (length c.memory) e))
     test false e = refl
 
--- a memory that is written keeps its length
-pub written_length : (memory : List ℕ) (at : ℕ) (bytes : List ℕ) → length (written memory at bytes) ≡ length memory
-written_length memory at bytes = test (fits memory at (length bytes)) refl
-  where
-    test : (b : Bool) → fits memory at (length bytes) ≡ b → length (if b then take at memory ++ bytes ++ drop (at + length bytes) memory else memory) ≡ length memory
-    test true e =
-        let h : at + length bytes ≤ length memory = leb-true (at + length bytes) (length memory) e in
-        let front = length-take-le at memory (omega arith) in
-        let back = length-drop (at + length bytes) memory in
-        let whole : length (take at memory ++ bytes ++ drop (at + length bytes) memory) ≡ length memory = simp length-append (omega arith) in
-        whole
-    test false e = refl
-
 -- the words that are left, and the variables
 pub record Stores (old new : Store) (left : List ℕ) : Type 0 where
   pub words : new.words.items ≡ left
@@ -180,7 +167,7 @@ write_acts n align offset old new word address left i b m k world region around 
         globals_are = k.globals ∙ h.globals_are;
         globals_fit = h.globals_fit;
         memory_is = e;
-        memory_fits = omega (arith, h.memory_fits, ap length m, written_length old.memory (address + offset) (cells (store_width n) word));
+        memory_fits = omega (arith, h.memory_fits, ap length m, length-written old.memory (address + offset) (cells (store_width n) word));
       };
       guards = refl;
       host = refl;

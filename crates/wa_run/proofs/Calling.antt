@@ -17,6 +17,7 @@ use Rattle.wa_ops.specs.declared.op.ValueType.{ValueType}
 use Rattle.wa_ops.specs.declared.op.ValueType.TheVariants.{I32, I64}
 use Rattle.wa_ops.specs.Sequences.{Sequence}
 use Rattle.wa_num.specs.Memory.{fits}
+use Rattle.wa_ops.proofs.Types.{length-callees}
 use Rattle.wa_machine.specs.Law.{types_of}
 use Rattle.wa_machine.specs.Machine.{Value, word32, word64, type_of, word_of, Region, Configuration, World, HostMeaning, Step, ended, onward, with_some, with_all, text_of, counted, pass, call, act, ticked, step}
 use Rattle.wa_run.specs.Acts.{IsNoFault}
@@ -465,10 +466,6 @@ callees_get [] function number e = absurd cc
 callees_get (first ∷ calls) zero number e = let p : first ≡ number = cc in ap (λ (n : CallNo). Some (callee_of_row (Some n.0))) p
 callees_get (first ∷ calls) (suc function) number e = callees_get calls function number e
 
-pub callees_long : (calls : List CallNo) → length (callees calls) ≡ length calls
-callees_long [] = refl
-callees_long (number ∷ calls) = ap suc (callees_long calls)
-
 pub row_within : (calls : List CallNo) (function : ℕ) (number : CallNo) → AreRows calls → slice_get calls function ≡ Some number → number.0 ≤ 64
 row_within [] function number r e = absurd cc
 row_within (first ∷ calls) zero number r e = let p : first ≡ number = cc in subst (λ (n : CallNo). n.0 ≤ 64) p r.0
@@ -482,7 +479,7 @@ call_within S ops ends calls function old h m =
     let go : Callee → Step S = λ callee. with_all (takes callee) m.is.region.operands (λ arguments left. call m.world callee arguments region m.is.around left m.c) in
     let f : FindsSome (slice_get m.world.context.calls function) =
     found_some (slice_get m.world.context.calls function) go (unticked (suc m.c.count) (with_some (slice_get m.world.context.calls function) go) (subst IsNoFault b.step_is m.sound)) in
-    omega (arith, some_within (callees calls) function f.value (ap (λ callees. slice_get callees function) (sym m.calls_are) ∙ f.is), callees_long calls)
+    omega (arith, some_within (callees calls) function f.value (ap (λ callees. slice_get callees function) (sym m.calls_are) ∙ f.is), length-callees calls)
 
 pub can_call : (S : Type 0) (ops : List Op) (ends : List ℕ) (calls : List CallNo) (function : ℕ) (number : CallNo) (callee : Callee) (old : Running) → slice_get ops old.at ≡ Some (op.Call function) →
     slice_get calls function ≡ Some number → callee_of_row (Some number.0) ≡ callee → CanGo S ops ends calls old → CanCall S callee function old

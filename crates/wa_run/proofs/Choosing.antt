@@ -5,6 +5,7 @@ use Rattle.wa_ops.specs.declared.op.Op.{Op}
 use Rattle.wa_ops.specs.declared.op.Op.TheVariants.{If, Else, End}
 use Rattle.wa_ops.specs.declared.op.ValueType.{ValueType}
 use Rattle.wa_ops.specs.Sequences.{Sequence, if_then, if_else}
+use Rattle.wa_ops.proofs.Places.{got_drop}
 use Rattle.wa_machine.specs.Machine.{Value, word32, inner, Region, Configuration, World, Step, onward, with_word, enter, ticked, step}
 use Rattle.wa_run.specs.Acts.{Holds, IsNoFault}
 use Rattle.wa_run.specs.Flat.{words_of, all_words, AllValues, Standing, IsOfKind, has_result, AllMark}
@@ -13,7 +14,7 @@ use Rattle.wa_run.specs.declared.label.Label.{Label}
 use Rattle.wa_run.specs.declared.label.Place.TheVariants as place
 use Rattle.wa_run.specs.declared.running.Running.{Running}
 use Rattle.wa_run.proofs.Plain.{FindsWord, found_word, Keeps, moved}
-use Rattle.wa_run.proofs.Places.{got_drop, SeesOneArm, SeesTwoArms, sees_if, Opens, OneArm, if_then_on, TwoArms, if_else_on}
+use Rattle.wa_run.proofs.Places.{SeesOneArm, SeesTwoArms, sees_if, Opens, OneArm, if_then_on, TwoArms, if_else_on}
 use Rattle.wa_run.proofs.Following.{unticked, step_at, Top, top_of, rooted_like, guards_stay, enter_follows}
 
 pub if_is_true : {A : Type 0} (b : Bool) (x y : A) → b ≡ true → (if b then x else y) ≡ x

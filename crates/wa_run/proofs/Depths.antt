@@ -10,9 +10,10 @@ use Rattle.wa_ops.specs.Sequences.{Sequence, done, plain, block, loop, if_then, 
 use Rattle.wa_ops.specs.Typing.{Context, is_same_type, Slot, Stack, fresh, push_result, pop, effect, after_region, no_result, types, Leaves, IsTyped}
 use Rattle.wa_validate.specs.Depths.{deeper, depth_at, depth_on, peak, body_depth}
 use Rattle.wa_validate.specs.declared.depth.Depth.{Depth}
+use Rattle.wa_ops.proofs.Types.{same_type}
 use Rattle.wa_machine.specs.Machine.{Value, type_of, Kind, body, inner, turns, Region, Configuration, World, HostMeaning, Step, next, ended, fault, onward, act, with_some, taken_result, whole_result, return_with, hand_on, close, arrive, branch, leave, enter, node, innermost, ticked, step, start}
 use Rattle.wa_machine.specs.Law.{types_of, kinds_of}
-use Rattle.wa_machine.proofs.Typed.{slots, closed, On, on_word, OfResult, same_type}
+use Rattle.wa_machine.proofs.Typed.{slots, closed, On, on_word, OfResult}
 use Rattle.wa_machine.proofs.Budget.{within_itself, left_first}
 use Rattle.wa_machine.proofs.Sane.{carried, labels_of, slots_of, Sound, Around, AllSound, Needs, Sane, GoodStep}
 use Rattle.wa_machine.proofs.Steps.{Vars, handed_slots, region_of}

@@ -5,6 +5,7 @@ use Rattle.wa_ops.specs.declared.op.Op.{Op}
 use Rattle.wa_ops.specs.declared.op.Op.TheVariants.{Block, Loop}
 use Rattle.wa_ops.specs.declared.op.ValueType.{ValueType}
 use Rattle.wa_ops.specs.Sequences.{Sequence, plain, block, loop, nesting, stands}
+use Rattle.wa_ops.proofs.Places.{got_drop}
 use Rattle.wa_machine.specs.Machine.{Value, Kind, inner, turns, Region, Configuration, World, Step, next, ended, fault, onward, act, enter, node, innermost, ticked, step}
 use Rattle.wa_run.specs.Acts.{Holds, IsNoFault, GoesOn, Acts, ActsOr}
 use Rattle.wa_run.specs.Flat.{words_of, all_words, Standing, IsOfKind, has_result, IsLabelled, Marks, AllMark, IsRooted}
@@ -14,7 +15,7 @@ use Rattle.wa_run.specs.declared.label.Label.{Label}
 use Rattle.wa_run.specs.declared.label.Place.TheVariants as place
 use Rattle.wa_run.specs.declared.running.Running.{Running}
 use Rattle.wa_run.specs.declared.running.Stop.TheVariants as stop
-use Rattle.wa_run.proofs.Places.{got_drop, SeesPlain, sees_plain, SeesBlock, sees_block, SeesLoop, sees_loop, plain_on, Opens, block_on, loop_on}
+use Rattle.wa_run.proofs.Places.{SeesPlain, sees_plain, SeesBlock, sees_block, SeesLoop, sees_loop, plain_on, Opens, block_on, loop_on}
 
 -- ---- the machine's step at the innermost region
 

@@ -7,6 +7,7 @@ use Rattle.wa_ops.specs.declared.op.Op.{Op}
 use Rattle.wa_ops.specs.declared.op.ValueType.{ValueType}
 use Rattle.wa_ops.specs.Typing.{is_same_type}
 use Rattle.wa_ops.specs.Sequences.{Sequence, done}
+use Rattle.wa_ops.proofs.Places.{got_drop}
 use Rattle.wa_machine.specs.Machine.{Value, type_of, word_of, Kind, body, inner, turns, Region, Configuration, World, Step, next, ended, with_some, whole_result, taken_result, return_with, hand_on, close, arrive, branch, ticked, step}
 use Rattle.wa_run.specs.Acts.{Holds, IsNoFault}
 use Rattle.wa_run.specs.Flat.{words_of, all_words, AllValues, IsMarker, Standing, IsOfKind, has_result, Marks, AllMark, IsRooted, carried_words}
@@ -19,7 +20,7 @@ use Rattle.wa_run.specs.declared.running.Running.{Running}
 use Rattle.wa_run.specs.declared.running.Stop.TheVariants as stop
 use Rattle.wa_run.specs.declared.store.Store.{Store}
 use Rattle.wa_run.proofs.Plain.{FindsSome, found_some, Keeps, moved}
-use Rattle.wa_run.proofs.Places.{got_drop, sees_end}
+use Rattle.wa_run.proofs.Places.{sees_end}
 use Rattle.wa_run.proofs.Following.{unticked, step_at, Top, top_of, rooted_like, guards_stay}
 
 pub words_append : (a b : List Value) → words_of (a ++ b) ≡ words_of a ++ words_of b

@@ -1,7 +1,7 @@
 -- Where the parts of a sequence stand in flat code, and what the instruction at a place says of the sequence there.
 use Rattle.std.proofs.Common.{◌≡◌, ◌+◌, ◌<◌, ◌⊎◌, inl, inr, ℕ, List, ◌∷◌, Option, Some, length, get_or, slice_get, drop, sym, ◌∙◌, ap, subst, refl, arith, length-drop}
-use Rattle.std.proofs.lemmas.List.{drop-drop, drop_more, get_or-drop}
-use Rattle.std.proofs.lemmas.Option.{slice_get_within, slice_get-get_or, get_or_from_slice_get}
+use Rattle.std.proofs.lemmas.List.{drop-drop, get_or-drop}
+use Rattle.std.proofs.lemmas.Option.{slice_get-get_or}
 use Rattle.wa_ops.specs.declared.op.Op.{Op}
 use Rattle.wa_ops.specs.declared.op.Op.TheVariants.{Block, Loop, If, Else, End}
 use Rattle.wa_ops.specs.declared.op.ValueType.{ValueType}
@@ -18,9 +18,6 @@ drop_here xs at x d rest e =
       omega (arith, length-drop at xs, ap length e),
       ap (λ i. get_or xs i d) same ∙ sym (get_or-drop at xs 0 d) ∙ ap (λ ys. get_or ys 0 d) e,
     )
-
-pub got_drop : {A : Type 0} (xs : List A) (at : ℕ) (x : A) → slice_get xs at ≡ Some x → drop at xs ≡ x ∷ drop (at + 1) xs
-got_drop xs at x e = drop_more xs at x (slice_get_within xs at x e) ∙ ap (λ y. y ∷ drop (at + 1) xs) (get_or_from_slice_get xs at x x e)
 
 pub drop_got : {A : Type 0} (xs : List A) (at : ℕ) (x : A) (rest : List A) → drop at xs ≡ x ∷ rest → slice_get xs at ≡ Some x
 drop_got xs at x rest e = slice_get-get_or xs at x (drop_here xs at x x rest e).0 ∙ ap Some (drop_here xs at x x rest e).1

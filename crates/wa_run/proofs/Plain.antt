@@ -1,6 +1,6 @@
 -- The plain instructions on words, against those on typed operands.
 use Rattle.std.proofs.Common.{◌≡◌, ◌^◌, ◌<◌, ◌≤◌, ◌/◌, ◌==◌, ℕ, ℤ, zero, suc, List, [], ◌∷◌, ◌++◌, Option, Some, None, Bool, true, false, if◌then◌else◌, length, get_or, slice_get, slice_set, sym, ◌∙◌, ap, subst, refl, arith}
-use Rattle.wa_machine.proofs.Typed.{same_type}
+use Rattle.wa_ops.proofs.Types.{same_type}
 use Rattle.std.specs.Int.{cast_unsigned, w32, w64}
 use Rattle.wa_ops.specs.declared.op.Op.TheVariants as op
 use Rattle.wa_ops.specs.declared.op.ValueType.{ValueType}

@@ -1,5 +1,5 @@
 -- All instructions, by what each does.
-use Rattle.std.proofs.Common.{◌≡◌, ◌<◌, ◌≤◌, ℕ, ℤ, zero, suc, List, [], ◌∷◌, Option, Some, None, length, get_or, slice_get, slice_index_or, Result, Ok, Err, IfOk, sym, ◌∙◌, subst, refl, ap, arith, length-drop}
+use Rattle.std.proofs.Common.{◌≡◌, ◌<◌, ◌≤◌, ℕ, ℤ, zero, suc, List, [], ◌∷◌, Option, Some, None, length, get_or, slice_get, slice_index_or, sym, ◌∙◌, subst, refl, ap, arith, length-drop}
 use Rattle.std.proofs.lemmas.Option.{slice_get-get_or, slice_get_read}
 use Rattle.wa_ops.specs.declared.op.Op.{Op}
 use Rattle.wa_ops.specs.declared.op.Op.TheVariants as op
@@ -127,7 +127,3 @@ plain_otherwise S instruction old nb nl ni ne nd br bi bt nr nc m = tt
 
 pub found_here : {A : Type 0} (xs : List A) (place : ℕ) (x y : A) → place < length xs → x ≡ slice_index_or xs place x → x ≡ y → slice_get xs place ≡ Some y
 found_here xs place x y h e same = slice_get_read xs (length xs) place x refl h e ∙ ap Some same
-
-pub if_ok : {A E : Type 0} (r : Result A E) (P Q : A → Type 0) → ((x : A) → P x → Q x) → IfOk r P → IfOk r Q
-if_ok (Ok x) P Q go p = go x p
-if_ok (Err e) P Q go p = p

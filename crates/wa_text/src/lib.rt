@@ -11,7 +11,6 @@ mod names;
 mod numbers;
 mod regions;
 mod text_line;
-mod words;
 
 pub use assembling::{assemble, read_module};
 pub use draft::{Body, Draft, Part, Turn};

@@ -6,11 +6,10 @@ ghost use Rattle.wa_text.specs.Instructions.{instructions, one, opcode_in};
 use crate::instructions::{alone, read_name, read_operands};
 use crate::names::opcode_of;
 use crate::numbers::{read_signed, read_word};
-use crate::words::read_bytes;
 use crate::{AsmRule, Constant, TextLine};
-use hk_lines::{read_number, split_words};
+use hk_lines::{read_bytes, read_number, split_words};
 use std::alloc::Global;
-use wa_ops::{NoMemory, ValueType};
+use wa_ops::{Items, NoMemory, ValueType};
 
 /// Reads a line, without the spaces at its front, or the rule that it breaks by itself: `BadWord` where no line begins
 /// with its first word, else `BadShape` where its parts aren't those of its first word.
@@ -158,7 +157,10 @@ fn read_data(alloc: Global, parts: &[&[u8]]) -> Result<Option<TextLine>, NoMemor
     let Some(bytes) = read_bytes(alloc, bytes)? else {
         return Ok(None);
     };
-    Ok(Some(TextLine::Data { offset, bytes }))
+    Ok(Some(TextLine::Data {
+        offset,
+        bytes: Items::from_vec(bytes.into_vec()),
+    }))
 }
 
 fn read_function(parts: &[&[u8]]) -> Option<TextLine>

@@ -1,8 +1,9 @@
 -- The loops over a body's instructions and over a module's functions.
-use Rattle.std.proofs.Common.{◌≡◌, ℕ, zero, suc, ◌+◌, ◌<◌, ◌≤◌, length, get_or, drop, drop-cons, add-one, length-append, below_more, arith, List, [], ◌∷◌, ◌++◌, Option, Some, None, Bool, true, false, if◌then◌else◌, slice_get, Result, Err, sym, ◌∙◌, ap, subst, refl}
+use Rattle.std.proofs.Common.{◌≡◌, ℕ, zero, suc, ◌+◌, ◌<◌, ◌≤◌, length, get_or, drop, length-append, below_more, arith, List, [], ◌∷◌, ◌++◌, Option, Some, None, Bool, true, false, if◌then◌else◌, slice_get, Result, Err, sym, ◌∙◌, ap, subst, refl}
 use Rattle.std.proofs.Math.ListN.{drop_of_length-le}
 use Rattle.std.proofs.lemmas.Option.{slice_get_read, slice_get_within}
 use Rattle.wa_ops.proofs.Parsing.{tree_reads}
+use Rattle.wa_ops.proofs.Places.{read_drop}
 use Rattle.wa_ops.specs.declared.modules.Code.{Code}
 use Rattle.wa_ops.specs.declared.modules.Module.{Module}
 use Rattle.wa_ops.specs.declared.op.Op.{Op}
@@ -32,13 +33,10 @@ pub record Going (context : Context) (ops : List Op) (place : ℕ) (r : OpenRegi
 pub going_start : (context : Context) (ops : List Op) (r : OpenRegions) → r ≡ begun context.result → Going context ops 0 r surface
 going_start context ops r e = subst (λ x. Going context ops 0 x surface) (sym e) (record { total = refl; few = record { inner = omega arith; around = tt; labels = omega arith } })
 
-pub at_op : (ops : List Op) (i : ℕ) (op : Op) → i < length ops → op ≡ get_or ops i op → drop i ops ≡ op ∷ drop (i + 1) ops
-at_op ops i op h e = drop-cons ops i op h ∙ ap (λ x. x ∷ drop (suc i) ops) (sym e) ∙ ap (λ n. op ∷ drop n ops) (sym (add-one i))
-
 pub going_step : (context : Context) (ops : List Op) (i : ℕ) (op : Op) (r : OpenRegions) (most : Depth) (o : Option OpenRegions) → i < length ops → op ≡ get_or ops i op → Going context ops i r most → step context op r ≡ o →
     verdict context ops 0 (begun context.result) surface ≡ on_step i o (λ next. verdict context (drop (i + 1) ops) (i + 1) next (deeper most (depth_of r)))
 going_step context ops i op r most o h e g k =
-    g.total ∙ ap (λ os. verdict context os i r most) (at_op ops i op h e) ∙ ap (λ x. on_step i x (λ next. verdict context (drop (i + 1) ops) (i + 1) next (deeper most (depth_of r)))) k
+    g.total ∙ ap (λ os. verdict context os i r most) (read_drop ops i op h e) ∙ ap (λ x. on_step i x (λ next. verdict context (drop (i + 1) ops) (i + 1) next (deeper most (depth_of r)))) k
 
 pub going_on : (context : Context) (ops : List Op) (i : ℕ) (op : Op) (r next : OpenRegions) (most : Depth) → i < length ops → op ≡ get_or ops i op → Going context ops i r most → step context op r ≡ Some next →
     Going context ops (i + 1) next (deeper most (depth_of r))

@@ -1,9 +1,19 @@
 -- What private steps of the code show. No public contract cites these.
 use Rattle.std.specs.Prelude.{ℕ, ◌≡◌, ◌+◌, ◌*◌, ◌^◌, ◌<◌, ◌==◌, ℤ, pos, ◌+ℤ◌, unsigned_abs, if◌then◌else◌, Result, Ok}
 use Rattle.xfl.specs.declared.fault.XflFault.{XflFault}
+use Rattle.xfl.specs.declared.rounding.Quotient.{Quotient}
 use Rattle.xfl.specs.Value.{Decimal, nought, signed}
 use Rattle.xfl.specs.Cut.{IsCut, IsExact}
 use Rattle.xfl.specs.Operations.{Exact, ranged, next_ranged}
+
+-- the exact result that a quotient is
+abbrev pub exact_of : Quotient → Exact
+exact_of of = record {
+  negative = of.negative;
+  numerator = of.numerator;
+  denominator = of.denominator;
+  exponent = of.exponent;
+}
 
 -- some cut of the exact result gives the answer, by the range rule
 pub record IsRounded (exact : Exact) (result : Result Decimal XflFault) : Type 0 where

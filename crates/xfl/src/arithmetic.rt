@@ -4,7 +4,7 @@ ghost use Rattle.xfl.specs.Operations.{whole, product, total, rounded, divided, 
 ghost use Rattle.xfl.specs.Steps.{IsRounded};
 
 use crate::fault::XflFault;
-use crate::rounding::{cut, rounded, rounded_quotient, rounded_up};
+use crate::rounding::{Quotient, cut, rounded, rounded_quotient, rounded_up};
 use crate::value::{ONE, Xfl, ZERO};
 
 /// mantissa * 10^exponent.
@@ -52,12 +52,12 @@ pub fn divide(x: Xfl, y: Xfl) -> Result<Xfl, XflFault>
     if y.mantissa == 0 {
         return Err(XflFault::DivisionByZero);
     }
-    rounded_quotient(
-        x.negative != y.negative,
-        u128::from(x.mantissa) * 100_000_000_000_000_000,
-        u128::from(y.mantissa),
-        x.exponent - y.exponent - 17,
-    )
+    rounded_quotient(Quotient {
+        negative: x.negative != y.negative,
+        numerator: u128::from(x.mantissa) * 100_000_000_000_000_000,
+        denominator: u128::from(y.mantissa),
+        exponent: x.exponent - y.exponent - 17,
+    })
 }
 
 /// 1 / x.
@@ -74,11 +74,16 @@ pub fn mulratio(x: Xfl, up: bool, num: u32, den: u32) -> Result<Xfl, XflFault>
     if den == 0 {
         return Err(XflFault::DivisionByZero);
     }
-    let numerator = u128::from(x.mantissa) * u128::from(num) * 10_000_000_000;
+    let share = Quotient {
+        negative: x.negative,
+        numerator: u128::from(x.mantissa) * u128::from(num) * 10_000_000_000,
+        denominator: u128::from(den),
+        exponent: x.exponent - 10,
+    };
     if up {
-        rounded_up(x.negative, numerator, u128::from(den), x.exponent - 10)
+        rounded_up(share)
     } else {
-        rounded_quotient(x.negative, numerator, u128::from(den), x.exponent - 10)
+        rounded_quotient(share)
     }
 }
 

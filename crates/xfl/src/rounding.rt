@@ -1,7 +1,7 @@
 ghost use Rattle.std.specs.Prelude.{◌≡◌, ◌+◌, ◌*◌, ◌^◌, ◌<◌, ◌≤◌, ◌≤ℤ◌, ◌↔◌, ◌⊎◌, pos, negsuc, IsTrue, IsFalse};
 ghost use Rattle.xfl.specs.Cut.{IsCut, IsExact};
 ghost use Rattle.xfl.specs.Operations.{ranged, next_ranged};
-ghost use Rattle.xfl.specs.Steps.{IsRounded, IsRoundedUp};
+ghost use Rattle.xfl.specs.Steps.{IsRounded, IsRoundedUp, exact_of};
 
 use crate::fault::XflFault;
 use crate::value::{Xfl, ZERO};
@@ -12,6 +12,15 @@ pub(crate) struct Digits {
     pub(crate) mantissa: u64,
     pub(crate) exponent: i64,
     pub(crate) exact: bool,
+}
+
+/// numerator / denominator * 10^exponent, with a sign.
+#[derive(Clone, Copy)]
+pub(crate) struct Quotient {
+    pub(crate) negative: bool,
+    pub(crate) numerator: u128,
+    pub(crate) denominator: u128,
+    pub(crate) exponent: i64,
 }
 
 /// The number, cut.
@@ -113,47 +122,37 @@ pub(crate) fn rounded(negative: bool, whole: u128, exponent: i64) -> Result<Xfl,
     in_range(negative, digits.mantissa, exponent + digits.exponent)
 }
 
-/// numerator / denominator * 10^exponent, rounded toward zero.
-pub(crate) fn rounded_quotient(
-    negative: bool,
-    numerator: u128,
-    denominator: u128,
-    exponent: i64,
-) -> Result<Xfl, XflFault>
-    requires divisible { 0 < denominator }
-    requires long { 0 < numerator → 10 ^ 15 * denominator ≤ numerator }
-    requires least { negsuc (2 ^ 40) ≤ℤ exponent }
-    requires greatest { exponent ≤ℤ pos (2 ^ 40) }
-    ensures { IsRounded (record { negative = negative; numerator = numerator; denominator = denominator; exponent = exponent }) result }
+/// The quotient, rounded toward zero.
+pub(crate) fn rounded_quotient(of: Quotient) -> Result<Xfl, XflFault>
+    requires divisible { 0 < of.denominator }
+    requires long { 0 < of.numerator → 10 ^ 15 * of.denominator ≤ of.numerator }
+    requires least { negsuc (2 ^ 40) ≤ℤ of.exponent }
+    requires greatest { of.exponent ≤ℤ pos (2 ^ 40) }
+    ensures { IsRounded (exact_of of) result }
 {
-    if numerator == 0 {
+    if of.numerator == 0 {
         return Ok(ZERO);
     }
-    let digits = cut_quotient(numerator, denominator);
-    in_range(negative, digits.mantissa, exponent + digits.exponent)
+    let digits = cut_quotient(of.numerator, of.denominator);
+    in_range(of.negative, digits.mantissa, of.exponent + digits.exponent)
 }
 
-/// numerator / denominator * 10^exponent, rounded away from zero.
-pub(crate) fn rounded_up(
-    negative: bool,
-    numerator: u128,
-    denominator: u128,
-    exponent: i64,
-) -> Result<Xfl, XflFault>
-    requires divisible { 0 < denominator }
-    requires long { 0 < numerator → 10 ^ 15 * denominator ≤ numerator }
-    requires least { negsuc (2 ^ 40) ≤ℤ exponent }
-    requires greatest { exponent ≤ℤ pos (2 ^ 40) }
-    ensures { IsRoundedUp (record { negative = negative; numerator = numerator; denominator = denominator; exponent = exponent }) result }
+/// The quotient, rounded away from zero.
+pub(crate) fn rounded_up(of: Quotient) -> Result<Xfl, XflFault>
+    requires divisible { 0 < of.denominator }
+    requires long { 0 < of.numerator → 10 ^ 15 * of.denominator ≤ of.numerator }
+    requires least { negsuc (2 ^ 40) ≤ℤ of.exponent }
+    requires greatest { of.exponent ≤ℤ pos (2 ^ 40) }
+    ensures { IsRoundedUp (exact_of of) result }
 {
-    if numerator == 0 {
+    if of.numerator == 0 {
         return Ok(ZERO);
     }
-    let digits = cut_quotient(numerator, denominator);
+    let digits = cut_quotient(of.numerator, of.denominator);
     if digits.exact {
-        in_range(negative, digits.mantissa, exponent + digits.exponent)
+        in_range(of.negative, digits.mantissa, of.exponent + digits.exponent)
     } else {
-        next_in_range(negative, digits.mantissa, exponent + digits.exponent)
+        next_in_range(of.negative, digits.mantissa, of.exponent + digits.exponent)
     }
 }
 

@@ -1,9 +1,9 @@
 use Rattle.std.proofs.Common.{IfOk, ◌≡◌, ◌∙◌, ap, subst}
+use Rattle.std.proofs.lemmas.Result.{IfOk-weaker}
 use Rattle.wa_machine.specs.Runs.{IsRun}
 use Rattle.wa_ops.specs.HookRules.{is_hook}
 use Rattle.hk_chain.specs.Calls.{hook_meaning}
 use Rattle.hk_alone.specs.Context.{first_host, place, setting}
-use Rattle.hk_alone.proofs.Beginning.{if_ok}
 use Rattle.hk_alone.proofs.Fitting.{all_fits}
 use Rattle.hk_alone.proofs.alone.run_alone.Goals as goal
 
@@ -17,7 +17,7 @@ run_on-requires c = record {
 pub returns : goal.returns
 returns c = record {
   run =
-      if_ok c.run_on.result _ _ (λ ended run. (
+      IfOk-weaker c.run_on.result _ _ (λ ended run. (
         run.0,
         subst (λ h. IsRun hook_meaning c.args.checked.now.wasm is_hook 0 h ended.outcome ended.count run.0)
             (ap (λ s. first_host s c.place-place.result c.in_ok-ledger.ledger) c.in_ok-setting.ensures.setting

@@ -2,9 +2,9 @@ use Rattle.std.proofs.Common.{sym, ap, Err}
 use Rattle.xo_list.specs.Span.{items}
 use Rattle.xo_object.specs.Transaction.{IsTransaction}
 use Rattle.hk_reading.specs.Transactions.{transaction_of}
+use Rattle.hk_reading.proofs.Finding.{unfound}
 use Rattle.hk_reading.proofs.TransactionsFound.{transaction_found}
 use Rattle.hk_api.proofs.Coding.{code_fits}
-use Rattle.hk_api.proofs.Taken.{unfound}
 use Rattle.hk_api.proofs.fee.transaction_of.Goals as goal
 
 pub returns-in-Ok : goal.returns-in-Ok

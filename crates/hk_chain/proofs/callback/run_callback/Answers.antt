@@ -1,10 +1,11 @@
 use Rattle.std.proofs.Common.{◌+◌, ◌-◌, ap, arith, refl, subst}
+use Rattle.std.proofs.lemmas.Result.{IfOk-weaker}
 use Rattle.hk_draft.specs.Drafted.{draft_of}
 use Rattle.hk_chain.specs.declared.ending.ChainEnd.TheVariants as found
 use Rattle.hk_chain.specs.Callback.{callback_at, callback_from, callback_of}
 use Rattle.hk_chain.specs.Meets.{EndMeans, IsPlay, PlayedFits, passing}
 use Rattle.hk_chain.proofs.CallingBack.{ends_here, next_idle, over}
-use Rattle.hk_chain.proofs.Keeping.{if_ok, stay_further}
+use Rattle.hk_chain.proofs.Keeping.{stay_further}
 use Rattle.hk_chain.proofs.callback.run_callback.Goals as goal
 
 pub loop-position-init : goal.loop-position-init
@@ -29,7 +30,7 @@ returns-in-Ran-clause-callback c =
     let m = c.args.ledger.now.entries in
     let play = callback_at c.args.setting.now c.args.ledger.now.next m c.args.account.now c.args.hash.now c.args.argument in
     let s = passing m c.loop-position.work in
-    if_ok c.called_end.result _ _ (λ end means.
+    IfOk-weaker c.called_end.result _ _ (λ end means.
     ends_here m c.args.account.now play c.loop-position.position (10 - c.loop-position.position)
     (10 - (c.loop-position.position + 1)) (omega (arith, c.loop-position-test.true)) s _
     c.loop-position.invariant.leads c.in-Ran.next c.in-Ran.run' end

@@ -1,12 +1,12 @@
 use Rattle.std.proofs.Common.{◌∙◌, Some, ap, rules, subst, sym}
+use Rattle.std.proofs.lemmas.Result.{IfOk-weaker}
 use Rattle.hk_chain.specs.Meets.{IsPlay, passing}
-use Rattle.hk_chain.proofs.Keeping.{if_ok}
 use Rattle.hk_chain.proofs.Running.{play_is}
 use Rattle.hk_chain.proofs.chain.play.Goals as goal
 
 pub returns-else-is_skipped-clause-played : goal.returns-else-is_skipped-clause-played
 returns-else-is_skipped-clause-played c =
-    if_ok c.run_turn.result _ _ (λ answer p.
+    IfOk-weaker c.run_turn.result _ _ (λ answer p.
     subst (λ q. IsPlay c.args.ledger.now.entries (passing c.args.ledger.now.entries c.args.work) q answer)
     (sym (play_is c.args.setting.now c.args.ledger.now.next c.args.ledger.now.entries c.args.account.now
     c.args.position (passing c.args.ledger.now.entries c.args.work) c.in-Some-Install.hash c.in-Some-Install.on

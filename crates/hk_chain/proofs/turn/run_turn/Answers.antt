@@ -1,10 +1,11 @@
 use Rattle.std.proofs.Common.{◌∙◌, Some, ap, subst, sym}
+use Rattle.std.proofs.lemmas.Result.{IfOk-weaker}
 use Rattle.hk_state.specs.declared.entry.Entry.TheVariants as entry
 use Rattle.hk_bound.specs.Checks.{Holds}
 use Rattle.hk_api_parts.specs.declared.place.Place.{Place}
 use Rattle.hk_chain.specs.Meets.{IsPlay, passing}
 use Rattle.hk_chain.specs.Programs.{IsReady}
-use Rattle.hk_chain.proofs.Keeping.{holds_at, if_ok, is_ready}
+use Rattle.hk_chain.proofs.Keeping.{holds_at, is_ready}
 use Rattle.hk_chain.proofs.Running.{turn_is}
 use Rattle.hk_chain.proofs.turn.run_turn.Goals as goal
 
@@ -46,7 +47,7 @@ returns-in_ok-fill-in-Some-clause-played c =
     c.in-Some-Definition.version c.of-checked.result.now are
     (record { bound_hook = c.in-Some-Definition.bound_hook; bound_cbak = c.in-Some-Definition.bound_cbak; there = there })
     c.of-checked.ensures.found in
-    if_ok c.run_checked.result _ _ (λ answer p.
+    IfOk-weaker c.run_checked.result _ _ (λ answer p.
     subst (λ q. IsPlay c.args.ledger.now.entries (passing c.args.ledger.now.entries c.args.work) q answer)
     (sym (turn_is c.args.setting.now c.args.ledger.now.next c.args.ledger.now.entries c.args.turn.now
     (passing c.args.ledger.now.entries c.args.work) c.in-Some-Definition.code c.in-Some-Definition.version

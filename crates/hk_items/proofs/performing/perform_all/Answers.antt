@@ -1,10 +1,11 @@
 use Rattle.std.proofs.Common.{arith, refl, subst}
 use Rattle.std.proofs.lemmas.List.{drop_all}
+use Rattle.wa_ops.proofs.Places.{each_at, read_drop}
 use Rattle.hk_draft.specs.Drafted.{draft_of}
 use Rattle.hk_events.specs.Items.{item_end, items_end}
 use Rattle.hk_items.specs.Endings.{Means, plain}
 use Rattle.hk_items.specs.Needs.{IsKnown}
-use Rattle.hk_items.proofs.Alike.{next_item, failed_item, no_more, each_at, at_item}
+use Rattle.hk_items.proofs.Alike.{next_item, failed_item, no_more}
 use Rattle.hk_items.proofs.performing.perform_all.Goals as goal
 
 pub perform-requires : goal.perform-requires
@@ -29,7 +30,7 @@ returns-in-Failed c = record {
   end =
       λ es. failed_item c.args.ledger.now.entries es c.args.account.now c.loop-item.position c.args.items.now
       c.loop-item.item-index c.item-item.result
-      (at_item c.args.items.now c.loop-item.item-index c.item-item.result c.loop-item-test.true c.item-item.is)
+      (read_drop c.args.items.now c.loop-item.item-index c.item-item.result c.loop-item-test.true c.item-item.is)
       c.loop-item.after (items_end plain c.args.account.now 0 c.args.items.now
       (draft_of c.args.ledger.now.entries c.args.overlay es)) (c.loop-item.invariant.1 es) c.in-Failed.name
       (subst (λ done. Means c.args.ledger.now.entries es done
@@ -43,7 +44,7 @@ loop-item-preserved c =
       omega (arith, at),
       λ es. next_item c.args.ledger.now.entries es c.args.account.now c.loop-item.position c.args.items.now
           c.loop-item.item-index c.item-item.result
-          (at_item c.args.items.now c.loop-item.item-index c.item-item.result c.loop-item-test.true c.item-item.is)
+          (read_drop c.args.items.now c.loop-item.item-index c.item-item.result c.loop-item-test.true c.item-item.is)
           c.loop-item.after (items_end plain c.args.account.now 0 c.args.items.now
           (draft_of c.args.ledger.now.entries c.args.overlay es)) (c.loop-item.invariant.1 es) c.in-Kept.kept
           (subst (λ done. Means c.args.ledger.now.entries es done

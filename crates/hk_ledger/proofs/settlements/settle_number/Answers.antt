@@ -1,6 +1,6 @@
 use Rattle.std.proofs.Common.{◌≡◌, ◌∙◌, IfOk, subst, sym, ap, arith}
+use Rattle.std.proofs.lemmas.Result.{IfOk-weaker}
 use Rattle.hk_chain.specs.Programs.{AreOf}
-use Rattle.hk_chain.proofs.Keeping.{if_ok}
 use Rattle.hk_engine.specs.Engine.{engine_of}
 use Rattle.hk_events.specs.Laws.{DueAt}
 use Rattle.hk_events.specs.Settled.{settled}
@@ -74,7 +74,7 @@ returns-clause-ok g c =
     IfOk c.enter_settled.result (λ report.
     event_of c.enter_settled.new.ledger report ≡ settled e before.ledger c.args.number))
     c.world.view_is
-    (if_ok c.enter_settled.result
+    (IfOk-weaker c.enter_settled.result
     (λ report. event_of c.enter_settled.new.ledger report ≡ left_by ledger c.in_ok-settled.settled)
     (λ report. event_of c.enter_settled.new.ledger report ≡ settled e ledger c.args.number)
     (λ report is. is ∙ c.in_ok-settled.ensures.left) c.enter_settled.ensures.ok)

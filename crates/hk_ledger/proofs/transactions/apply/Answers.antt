@@ -1,4 +1,5 @@
 use Rattle.std.proofs.Common.{◌≡◌, ◌∙◌, subst, sym, ap, refl}
+use Rattle.std.proofs.lemmas.Result.{IfOk-weaker}
 use Rattle.hk_lines.specs.declared.result_name.ResultName.TheVariants as name
 use Rattle.hk_reading.specs.declared.reading.Reading.TheVariants as readings
 use Rattle.hk_reading.specs.Readings.{Reads}
@@ -6,7 +7,6 @@ use Rattle.hk_engine.specs.Engine.{engine_of}
 use Rattle.hk_events.specs.Events.{applied}
 use Rattle.hk_ledger.specs.Reports.{event_of, HoldsFor}
 use Rattle.hk_ledger.proofs.Applied.{applied_holds, refused_event}
-use Rattle.hk_chain.proofs.Keeping.{if_ok}
 use Rattle.hk_ledger.proofs.transactions.apply.Goals as goal
 
 pub returns-in-TooLong-clause-holds : goal.returns-in-TooLong-clause-holds
@@ -57,7 +57,7 @@ returns-in-Transaction-clause-holds g c =
     let t = c.in-Transaction.transaction in
     let now = c.apply_read.new.world in
     let same = (subst (Reads blob) c.in-Transaction.is c.in_ok-read.ensures.relation).1.is.blob in
-    if_ok c.apply_read.result
+    IfOk-weaker c.apply_read.result
     (λ report. event_of now.ledger report ≡ applied (engine_of rules) before.ledger c.args.verdict t.blob)
     (λ report. HoldsFor blob before.ledger (event_of now.ledger report))
     (λ report is.

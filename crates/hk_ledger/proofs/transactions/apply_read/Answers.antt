@@ -1,11 +1,11 @@
 use Rattle.std.proofs.Common.{◌≡◌, ◌∙◌, IfOk, subst, sym, ap, arith}
+use Rattle.std.proofs.lemmas.Result.{IfOk-weaker}
 use Rattle.hk_chain.specs.Programs.{AreOf}
 use Rattle.hk_engine.specs.Engine.{engine_of}
 use Rattle.hk_events.specs.Events.{applied, applied_by}
 use Rattle.hk_ledger.specs.Reports.{event_of, performed_of}
 use Rattle.hk_ledger.specs.World.{IsWhole}
 use Rattle.hk_ledger.proofs.Applied.{ready, performs, applied_whole, applied_burnt, applied_programs}
-use Rattle.hk_chain.proofs.Keeping.{if_ok}
 use Rattle.hk_ledger.proofs.Entered.{either_way}
 use Rattle.hk_ledger.proofs.transactions.apply_read.Goals as goal
 
@@ -80,7 +80,7 @@ returns-clause-ok g c =
     IfOk c.enter.result (λ report.
     event_of c.enter.new.ledger report ≡ applied (engine_of rules) before.ledger c.args.verdict t.blob))
     c.world.view_is
-    (if_ok c.enter.result
+    (IfOk-weaker c.enter.result
     (λ report. event_of c.enter.new.ledger report ≡ applied_by ledger (performed_of ledger.entries answer))
     (λ report. event_of c.enter.new.ledger report ≡ applied (engine_of rules) ledger c.args.verdict t.blob)
     (λ report is. is ∙ same) c.enter.ensures.ok)

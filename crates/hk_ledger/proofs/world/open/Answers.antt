@@ -1,7 +1,7 @@
 use Rattle.std.proofs.Common.{◌≡◌, ◌∙◌, ◌+◌, ap, arith}
+use Rattle.std.proofs.lemmas.Result.{on_ok_weaker}
 use Rattle.hk_state.specs.Holdings.{with_holding}
 use Rattle.hk_state.specs.Writes.{with_writes, with_new}
-use Rattle.hk_state.proofs.Told.{ok_map}
 use Rattle.hk_ledger.proofs.world.open.Goals as goal
 
 pub returns-clause-ok : goal.returns-clause-ok
@@ -12,6 +12,6 @@ returns-clause-ok c =
     (ap (with_writes m) c.new-overlay.ensures.empty ∙ with_new m) in
     let next : c.args.ledger.now.next + 0 ≡ c.args.ledger.now.next = omega arith in
     let burnt : c.args.ledger.now.burnt + 0 ≡ c.args.ledger.now.burnt = omega arith in
-    ok_map c.commit.result
+    on_ok_weaker c.commit.result
     (λ done. done ∙ (λ i. record c.args.ledger.now { entries = entries i; next = next i; burnt = burnt i }))
     c.commit.ensures.ok

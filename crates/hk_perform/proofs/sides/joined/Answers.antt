@@ -1,5 +1,5 @@
 use Rattle.std.proofs.Common.{◌∙◌, ◌++◌, ◌∷◌, [], ap, sym, arith, append_assoc, append-nil}
-use Rattle.hk_perform.proofs.Ending.{no_items}
+use Rattle.std.proofs.lemmas.List.{nil_from_length}
 use Rattle.hk_perform.proofs.sides.joined.Goals as goal
 
 pub loop-line-init : goal.loop-line-init
@@ -20,6 +20,6 @@ returns c =
     record {
       joined =
           sym (append-nil c.loop-line.all)
-          ∙ sym (ap (λ lines. c.loop-line.all ++ lines) (no_items c.loop-line.line-iterator.rest.items (omega (arith, none, ok))))
+          ∙ sym (ap (λ lines. c.loop-line.all ++ lines) (nil_from_length c.loop-line.line-iterator.rest.items (omega (arith, none, ok))))
           ∙ c.loop-line.invariant;
     }

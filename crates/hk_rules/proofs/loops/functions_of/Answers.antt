@@ -1,7 +1,8 @@
 use Rattle.std.proofs.Common.{◌+◌, sym, subst}
 use Rattle.wa_ops.specs.Sequences.{Reads}
 use Rattle.wa_ops.specs.Soundness.{IsSoundBody}
-use Rattle.hk_rules.proofs.Looping.{Gathered, each_at, gathered_next}
+use Rattle.wa_ops.proofs.Places.{each_at}
+use Rattle.hk_rules.proofs.Looping.{Gathered, gathered_next}
 use Rattle.hk_rules.proofs.loops.functions_of.Goals as goal
 
 pub loop-code-preserved : goal.loop-code-preserved

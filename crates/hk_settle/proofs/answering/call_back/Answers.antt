@@ -1,5 +1,5 @@
 use Rattle.std.proofs.Common.{◌≡◌, ◌∙◌, sym}
-use Rattle.hk_chain.proofs.Keeping.{if_ok}
+use Rattle.std.proofs.lemmas.Result.{IfOk-weaker}
 use Rattle.hk_chain.specs.declared.ending.ChainEnd.TheVariants as found
 use Rattle.hk_draft.specs.Drafted.{draft_of}
 use Rattle.hk_draft.specs.Ends.{kept}
@@ -37,7 +37,7 @@ returns-in-Kept-clause-answers c =
     (found.Kept end.overlay end.emissions end.records) c.in_ok-after.ensures.same c.relist.ensures.relisted
     c.in_ok-earlier.ensures.same c.as_slice.ensures.items c.argument.ensures.argument end.is
     c.in_ok-records.ensures.callback in
-    if_ok c.kept.result
+    IfOk-weaker c.kept.result
     (λ x. (s : Draft) → length s.emissions ≡ c.len-count.result → answered_of ledger.entries x
     ≡ answered ledger.next s (kept (draft_of ledger.entries end.overlay end.emissions) end.records))
     (λ x. answered_of ledger.entries x ≡ answered_by ledger w c.args.account.now c.args.word a)

@@ -1,9 +1,10 @@
 use Rattle.std.proofs.Common.{◌≡◌, None, sym, subst}
 use Rattle.std.specs.FinMap as map
+use Rattle.std.proofs.lemmas.Result.{on_ok_weaker}
 use Rattle.hk_state.specs.declared.entry.Entry.TheVariants as entry
 use Rattle.hk_state.specs.Room.{Adds}
 use Rattle.hk_state.proofs.Making.{adds_more}
-use Rattle.hk_state.proofs.Told.{is_none, others, stays, ok_map, put_there}
+use Rattle.hk_state.proofs.Told.{is_none, others, stays, put_there}
 use Rattle.hk_state.proofs.commit.make_place.Goals as goal
 
 absent : (c : goal.After-put) → map.get c.args.entries.now c.args.key.now ≡ None
@@ -16,7 +17,7 @@ returns-clause-adds c base puts put adds =
     (others c.put.result c.args.entries.now c.put.new.self c.args.key.now (entry.Other c.new.result) c.put.ensures.ok c.put.ensures.err) adds)
 
 pub returns-clause-there : goal.returns-clause-there
-returns-clause-there c = ok_map c.put.result (put_there c.args.entries.now c.put.new.self c.args.key.now (entry.Other c.new.result)) c.put.ensures.ok
+returns-clause-there c = on_ok_weaker c.put.result (put_there c.args.entries.now c.put.new.self c.args.key.now (entry.Other c.new.result)) c.put.ensures.ok
 
 pub returns-clause-stays : goal.returns-clause-stays
 returns-clause-stays c = stays c.put.result c.args.entries.now c.put.new.self c.args.key.now (entry.Other c.new.result) c.put.ensures.ok c.put.ensures.err (absent c)

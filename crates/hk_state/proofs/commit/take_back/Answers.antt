@@ -1,7 +1,7 @@
 use Rattle.std.proofs.Common.{◌≡◌, ◌∙◌, sym, subst, length, vec_len, rules}
+use Rattle.std.proofs.lemmas.List.{nil_from_length}
 use Rattle.hk_state.specs.Room.{Adds}
 use Rattle.hk_state.proofs.Making.{adds_less, adds_nothing}
-use Rattle.hk_state.proofs.Told.{no_items}
 use Rattle.hk_state.proofs.commit.take_back.Goals as goal
 
 pub loop-key-preserved : goal.loop-key-preserved
@@ -13,5 +13,5 @@ loop-key-preserved c base puts adds =
 pub returns : goal.returns
 returns c =
     let long : vec_len c.loop-key.added ≡ length c.loop-key.added.items = search rules in
-    let none = no_items c.loop-key.added.items (sym long ∙ c.in_default.ensures.cases.0) in
+    let none = nil_from_length c.loop-key.added.items (sym long ∙ c.in_default.ensures.cases.0) in
     record { taken = λ base puts adds. adds_nothing base c.loop-key.entries puts (subst (Adds base puts c.loop-key.entries) none (c.loop-key.invariant base puts adds)) }

@@ -1,7 +1,8 @@
 use Rattle.std.proofs.Common.{refl, rules, subst, sym}
 use Rattle.std.specs.Prelude.{IsSome}
+use Rattle.std.proofs.lemmas.Result.{on_ok_weaker}
 use Rattle.hk_state.specs.declared.key.Key.TheVariants as key
-use Rattle.hk_chain.proofs.Keeping.{either, filled_of, filled_stays, filled_there, nothing, on_ok}
+use Rattle.hk_chain.proofs.Keeping.{either, filled_of, filled_stays, filled_there, nothing}
 use Rattle.hk_chain.proofs.programs.Programs.fill.Goals as goal
 
 pub returns-clause-held : goal.returns-clause-held
@@ -25,6 +26,6 @@ returns-clause-stays c =
 
 pub returns-clause-there : goal.returns-clause-there
 returns-clause-there c =
-    on_ok c.keep.result
+    on_ok_weaker c.keep.result
     (λ e. subst IsSome (sym (filled_there c.args.self.now c.keep.new.self (key.Definition c.args.hash.now) c.in_ok-checked.checked e)) (search rules))
     c.keep.ensures.ok

@@ -1,10 +1,11 @@
 use Rattle.std.proofs.Common.{Some, None, ap, arith, refl, inl, inr, sym, ◌∙◌, slice_index_or}
 use Rattle.std.proofs.lemmas.Option.{slice_get-get_or}
+use Rattle.std.proofs.lemmas.Result.{IfOk-weaker}
 use Rattle.wa_ops.specs.Soundness.{IsSoundOp}
 use Rattle.wa_ops.specs.declared.op.Op.TheVariants as op
 use Rattle.wa_machine.specs.Starts.{meaning_of}
 use Rattle.wa_run.proofs.Branching.{br_follows, br_can}
-use Rattle.wa_run.proofs.Turning.{go_within, each_at, can_turn, goes_entry, goes_turn, goes_choice, plain_otherwise, found_here, if_ok}
+use Rattle.wa_run.proofs.Turning.{go_within, each_at, can_turn, goes_entry, goes_turn, goes_choice, plain_otherwise, found_here}
 use Rattle.wa_run.proofs.running.Running.turn.Goals as goal
 
 pub choose-requires-clause-meets : goal.choose-requires-clause-meets
@@ -87,7 +88,7 @@ returns-in-Return-clause-goes g c =
     (found_here c.args.ops.now c.args.self.now.at c.index-ops-self.result _ (go_within _ c.args.ops.now c.args.ends.now c.args.calls.now c.args.self.now c.requires.meets) c.index-ops-self.is c.in-Return.is) c.leave.ensures.turns
 
 pub returns-in-Call-clause-goes : goal.returns-in-Call-clause-goes
-returns-in-Call-clause-goes g c = if_ok c.call.result _ _ (λ found goes. goes c.args.ops.now c.args.ends.now (found_here c.args.ops.now c.args.self.now.at c.index-ops-self.result _ (go_within _ c.args.ops.now c.args.ends.now c.args.calls.now c.args.self.now c.requires.meets) c.index-ops-self.is c.in-Call.is)) c.call.ensures.goes
+returns-in-Call-clause-goes g c = IfOk-weaker c.call.result _ _ (λ found goes. goes c.args.ops.now c.args.ends.now (found_here c.args.ops.now c.args.self.now.at c.index-ops-self.result _ (go_within _ c.args.ops.now c.args.ends.now c.args.calls.now c.args.self.now c.requires.meets) c.index-ops-self.is c.in-Call.is)) c.call.ensures.goes
 
 pub returns-in_default-clause-goes : goal.returns-in_default-clause-goes
 returns-in_default-clause-goes g c =
