@@ -78,7 +78,8 @@ impl<'a> Words<'a> {
         }
     }
 
-    /// The next word as bytes: `-` for none, or parts with `+` between them. A part is hex digits, or `$` and the name of
+    /// The next word as bytes: `-` for none, or parts with `+` between them. A part is hex digits, or `$` and the name
+    /// of
     /// bytes; `*` and a count behind it say how often it comes.
     pub fn bytes(&mut self) -> Result<Vec<u8>, CaseFault> {
         let word = self.word()?;

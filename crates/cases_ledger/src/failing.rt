@@ -32,5 +32,6 @@ impl Transactor for Failing {
 
     ghost keeps_accounts = { λ header m n t id e is. cc };
 
-    ghost names_failures = { λ header m t name e. let same : Occupied ≡ name = cc in subst (λ n. is_failure n ≡ true) same refl };
+    ghost names_failures = { λ header m t name e.
+        let same : Occupied ≡ name = cc in subst (λ n. is_failure n ≡ true) same refl };
 }

@@ -10,7 +10,8 @@ use std::str;
 
 const MOST_DROPS: u64 = 100_000_000_000_000_000;
 
-/// What each line of a replay does under rules: the replay goes on or ends, and what it prints, or the rule that the line breaks.
+/// What each line of a replay does under rules: the replay goes on or ends, and what it prints, or the rule that the
+/// line breaks.
 pub fn told<T: Transactor>(words: &mut Words<'_>, rules: &T) -> Result<String, CaseFault> {
     let alloc = words.alloc;
     let mut replay = Replay::new(alloc);

@@ -1,4 +1,5 @@
-//! Cases of the ledger's state: a line is a little script of commands, and its answer is what they tell, one after the other.
+//! Cases of the ledger's state: a line is a little script of commands, and its answer is what they tell, one after the
+//! other.
 #![tactic(auto)]
 
 use cases::{CaseFault, Family, Words};
@@ -121,7 +122,8 @@ impl Script {
     }
 }
 
-// A key as the letter of its kind and three numbers below 256; a kind with fewer parts leaves the last ones: `s 1 2 3`, `i 1 9 0`, `a 1 0 0`.
+// A key as the letter of its kind and three numbers below 256; a kind with fewer parts leaves the last ones: `s 1 2 3`,
+// `i 1 9 0`, `a 1 0 0`.
 fn key(words: &mut Words<'_>) -> Result<Key, CaseFault> {
     let kind = words.word()?;
     let (first, second, third): (u8, u8, u8) = (words.value()?, words.value()?, words.value()?);

@@ -36,7 +36,8 @@ pub begins : (setting : Setting) (place : Place) (l : LedgerValue) (w : Writes) 
     ≡ first_host setting place l
 unfolding first_host
 begins setting place l w es skipped overrides none empty first second =
-    ap (λ d. begun setting place l d (record { skipped = skipped; overrides = overrides })) (drafted l.entries w es none empty)
+    ap (λ d. begun setting place l d (record { skipped = skipped; overrides = overrides }))
+    (drafted l.entries w es none empty)
     ∙ ap (λ xs. begun setting place l (draft_on l.entries) (record { skipped = xs; overrides = overrides })) first
     ∙ ap (λ xs. begun setting place l (draft_on l.entries) (record { skipped = []; overrides = xs })) second
 

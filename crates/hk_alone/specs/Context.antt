@@ -71,7 +71,8 @@ with_hook owner hash definition =
     (key.Definition hash) definition
 
 unfoldable pub entries : List ℕ → ℕ → Hash256 → ℕ → Option ℕ → Entries
-entries code version hash bound_hook bound_cbak = with_hook account hash (entry.Definition code version bound_hook bound_cbak)
+entries code version hash bound_hook bound_cbak =
+    with_hook account hash (entry.Definition code version bound_hook bound_cbak)
 
 abbrev pub entries_of : List ℕ → Held → Entries
 entries_of code held = entries code held.version held.hash held.bound_hook held.bound_cbak

@@ -25,7 +25,8 @@ use wa_exec::{Ended, Export, Instance};
 /// `NoMemory` where memory ran out.
 pub fn run_alone(alloc: Global, checked: &Checked, code: &[u8]) -> Result<Ended, NoMemory>
     ensures run { IfOk result (λ ended. (after : HostState) ×
-        IsRun hook_meaning checked.now.wasm is_hook 0 (context.host code.now checked.now) ended.outcome ended.count after) }
+        IsRun hook_meaning checked.now.wasm is_hook 0 (context.host code.now checked.now) ended.outcome ended.count
+        after) }
 {
     reads_one_way();
     let setting = setting(alloc)?;

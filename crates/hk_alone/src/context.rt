@@ -82,7 +82,8 @@ fn entries(
     code: &[u8],
 ) -> Result<Overlay, NoMemory>
     ensures entries { IfOk result (λ overlay. with_writes map.empty overlay ≡
-        context.with_hook owner checked.now.hash (entry.Definition code.now checked.now.version checked.now.bound_hook checked.now.bound_cbak)) }
+        context.with_hook owner checked.now.hash
+        (entry.Definition code.now checked.now.version checked.now.bound_hook checked.now.bound_cbak)) }
 {
     let mut overlay = Overlay::new(alloc);
     let account = Entry::Account {

@@ -1,11 +1,13 @@
 -- The fee for the code of a transaction's hooks is small: there are ten items at most, and a field's bytes are few.
-use Rattle.std.proofs.Common.{ℕ, ◌*◌, ◌≤◌, ◌<◌, ◌^◌, ◌==◌, Bool, true, false, List, [], ◌∷◌, length, refl, ap, arith, Option, Some, None}
+use Rattle.std.proofs.Common.{ℕ, ◌*◌, ◌≤◌, ◌<◌, ◌^◌, ◌==◌, Bool, true, false, List, [], ◌∷◌, length, refl, ap, arith}
+use Rattle.std.proofs.Common.{Option, Some, None}
 use Rattle.xo_fields.specs.declared.form.Form.TheVariants.{Blob}
 use Rattle.xo_list.specs.Item.{Item, lookup}
 use Rattle.xo_object.specs.declared.transaction.HookItem.{HookItem}
 use Rattle.xo_object.specs.declared.transaction.Transaction.{Transaction}
 use Rattle.xo_object.specs.Names as names
-use Rattle.xo_object.specs.Transaction.{Each, IsElement, HookIs, which, Which, noop, delete, create, install, delete_namespace, update, HooksFor, IsTransaction}
+use Rattle.xo_object.specs.Transaction.{Each, IsElement, HookIs, which, Which, noop, delete, create, install}
+use Rattle.xo_object.specs.Transaction.{delete_namespace, update, HooksFor, IsTransaction}
 use Rattle.xo_object.specs.Transaction as transactions
 use Rattle.xo_object.proofs.Values.{lookup_fits}
 use Rattle.hk_state.specs.Fees.{item_fee, code_fee}
@@ -18,7 +20,8 @@ item_fits x h e = by_kind (which e.fields) e.is
     by_kind delete is = let none = ap item_fee is.is in omega (arith, none)
     by_kind create is =
         let fee = ap item_fee is.is in
-        let few : length is.code ≤ 918744 = lookup_fits x.value e.fields names.create_code Blob is.code e.object refl is.coded in
+        let few : length is.code ≤ 918744 =
+        lookup_fits x.value e.fields names.create_code Blob is.code e.object refl is.coded in
         omega (arith, fee, few)
     by_kind install is = let none = ap item_fee is.is in omega (arith, none)
     by_kind delete_namespace is = let none = ap item_fee is.is in omega (arith, none)
@@ -34,7 +37,8 @@ each_fits (x ∷ xs) (h ∷ hs) each =
 each_fits [] (h ∷ hs) each = absurd each
 each_fits (x ∷ xs) [] each = absurd each
 
-hooks_fit : (b : Bool) (bytes : Option (List ℕ)) (items : List HookItem) → HooksFor b bytes items → code_fee items < 2 ^ 62
+hooks_fit : (b : Bool) (bytes : Option (List ℕ)) (items : List HookItem) → HooksFor b bytes items →
+    code_fee items < 2 ^ 62
 hooks_fit false bytes items none = let fee = ap code_fee none in omega (arith, fee)
 hooks_fit true None items none = absurd none
 hooks_fit true (Some bytes) items are =
@@ -42,6 +46,7 @@ hooks_fit true (Some bytes) items are =
     let few = are.0.few in
     omega (arith, fee, few)
 
-pub code_fits : (fields : List Item) (bytes : List ℕ) (emitted : Bool) (t : Transaction) → IsTransaction fields bytes emitted t →
+pub code_fits : (fields : List Item) (bytes : List ℕ) (emitted : Bool) (t : Transaction) →
+    IsTransaction fields bytes emitted t →
     code_fee t.hooks < 2 ^ 62
 code_fits fields bytes emitted t is = hooks_fit (t.kind == 22) (lookup names.hooks fields) t.hooks is.hooks

@@ -18,4 +18,5 @@ none_for kind bytes items other true is h = absurd (other ((Decides-eqb kind 22)
 pub no_hooks : (blob : List ℕ) (context : EmitContext) (nonces : List Hash256) (e : Emission) →
     IsEmission blob context nonces e → e.transaction.hooks ≡ []
 no_hooks blob context nonces e is =
-    none_for e.transaction.kind (lookup names.hooks is.fields) e.transaction.hooks is.other (e.transaction.kind == 22) refl is.is.hooks
+    none_for e.transaction.kind (lookup names.hooks is.fields) e.transaction.hooks is.other (e.transaction.kind == 22)
+    refl is.is.hooks

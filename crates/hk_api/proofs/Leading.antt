@@ -1,5 +1,7 @@
 -- All calls keep what the host's state must keep.
-use Rattle.std.proofs.Common.{◌≡◌, ℕ, ℤ, pos, inl, Bool, true, false, List, length, refl, sym, ap, subst, ◌∙◌, Ok, Option, Some, None, ok_or, ◌+◌, ◌-◌, ◌*◌, ◌^◌, ◌<◌, ◌==◌, ◌&&◌, not, nat_lt, nat_le, arith, if◌then◌else◌}
+use Rattle.std.proofs.Common.{◌≡◌, ℕ, ℤ, pos, inl, Bool, true, false, List, length, refl, sym, ap, subst, ◌∙◌, Ok}
+use Rattle.std.proofs.Common.{Option, Some, None, ok_or, ◌+◌, ◌-◌, ◌*◌, ◌^◌, ◌<◌, ◌==◌, ◌&&◌, not, nat_lt, nat_le}
+use Rattle.std.proofs.Common.{arith, if◌then◌else◌}
 use Rattle.std.specs.FinMap.{get}
 use Rattle.std.proofs.lemmas.Bool.{ltb-true}
 use Rattle.hk_calls.specs.Arguments.{pair_of}
@@ -17,13 +19,16 @@ use Rattle.xo_fields.specs.Laws.{OneHeader}
 use Rattle.hk_draft.specs.Extends.{Extends, Emits, KeepsOthers}
 use Rattle.hk_draft.specs.Reads.{reads_emitted}
 use Rattle.hk_draft.specs.Writers.{MayWriteBy}
-use Rattle.hk_draft.proofs.Extended.{extends_itself, extends_further, extends_weaker, extends_state, extends_emission, others_itself, others_further, others_state}
+use Rattle.hk_draft.proofs.Extended.{extends_itself, extends_further, extends_weaker, extends_state, extends_emission}
+use Rattle.hk_draft.proofs.Extended.{others_itself, others_further, others_state}
 use Rattle.hk_draft.proofs.Granted.{may_write_means}
 use Rattle.hk_draft.proofs.Waiting.{accepted_waits}
 use Rattle.hk_api_parts.specs.Emitting.{own_burden, context_of}
 use Rattle.hk_api.specs.Emissions.{emit}
-use Rattle.hk_api.specs.HostState.{HostState, StateWrite, with_write, with_chain, with_slots, with_emitting, with_emission}
-use Rattle.hk_api.specs.States.{own_key, foreign_key, owner_of, namespace_of, is_sized, may_write_at, stored, state_set, state_foreign_set, most_bytes, lacks_reserve, added_units}
+use Rattle.hk_api.specs.HostState.{HostState, StateWrite, with_write, with_chain, with_slots, with_emitting}
+use Rattle.hk_api.specs.HostState.{with_emission}
+use Rattle.hk_api.specs.States.{own_key, foreign_key, owner_of, namespace_of, is_sized, may_write_at, stored, state_set}
+use Rattle.hk_api.specs.States.{state_foreign_set, most_bytes, lacks_reserve, added_units}
 use Rattle.hk_api.specs.Table.{state_row}
 use Rattle.hk_api.specs.Ends.{holds}
 use Rattle.hk_api.specs.Leads.{Leads, CallsLead}
@@ -49,7 +54,9 @@ later : (h m l : HostState) → Leads h m → Leads m l →
 later h m l one two =
     subst (λ seq. Extends reads_emitted seq (Grounds h) m.draft l.draft) (ap (λ s. s.header.seq) one.setting)
     (extends_weaker reads_emitted m.setting.header.seq (Grounds m) (Grounds h)
-    (λ q may. subst (λ before. MayWriteBy before h.place.hash h.place.account q) one.before (subst (λ place. MayWriteBy m.before place.hash place.account q) one.place may))
+    (λ q may.
+    subst (λ before. MayWriteBy before h.place.hash h.place.account q) one.before
+    (subst (λ place. MayWriteBy m.before place.hash place.account q) one.place may))
     m.draft l.draft two.extends)
 
 pub leads_then : (h m l : HostState) → Leads h m → Leads m l → Leads h l
@@ -58,7 +65,9 @@ leads_then h m l one two = record {
   place = two.place ∙ one.place;
   before = two.before ∙ one.before;
   next = two.next ∙ one.next;
-  extends = extends_further reads_emitted h.setting.header.seq (Grounds h) h.draft m.draft l.draft one.extends (later h m l one two);
+  extends =
+      extends_further reads_emitted h.setting.header.seq (Grounds h) h.draft m.draft l.draft one.extends
+      (later h m l one two);
   others = others_further h.draft.entries m.draft.entries l.draft.entries one.others two.others;
 }
 
@@ -80,7 +89,9 @@ leads_beside h after setting place before next draft = record {
   place = place;
   before = before;
   next = next;
-  extends = subst (Extends reads_emitted h.setting.header.seq (Grounds h) h.draft) (sym draft) (extends_itself reads_emitted h.setting.header.seq (Grounds h) h.draft);
+  extends =
+      subst (Extends reads_emitted h.setting.header.seq (Grounds h) h.draft) (sym draft)
+      (extends_itself reads_emitted h.setting.header.seq (Grounds h) h.draft);
   others = subst (λ d. KeepsOthers h.draft.entries d.entries) (sym draft) (others_itself h.draft.entries);
 }
 
@@ -94,7 +105,9 @@ MayWriteIt h r = Grounds h r.1.at
 
 stored_may : (h : HostState) (q : StateKey) (bytes : List ℕ) → Grounds h q → Gives (MayWriteIt h) (stored h q bytes)
 stored_may h q bytes may =
-    gives_refuse (MayWriteIt h) (lacks_reserve h.draft.entries q.owner (added_units (get h.draft.entries (as_key q)) bytes)) code.ReserveInsufficient
+    gives_refuse (MayWriteIt h)
+    (lacks_reserve h.draft.entries q.owner (added_units (get h.draft.entries (as_key q)) bytes))
+    code.ReserveInsufficient
     (Ok (pos (length bytes), record { at = q; bytes = bytes })) (λ _. may)
 
 state_set_may : (h : HostState) (m : List ℕ) (from at : Pair) → Gives (MayWriteIt h) (state_set h m from at)
@@ -102,10 +115,12 @@ state_set_may h m from at =
     gives_then (MayWriteIt h) (read m from) _ (λ value _.
     gives_then (MayWriteIt h) (read m at) _ (λ bytes _.
     gives_then (MayWriteIt h) (key bytes) _ (λ k _.
-    gives_refuse (MayWriteIt h) (nat_lt (most_bytes h.place.version) from.count) code.TooBig (stored h (own_key h.place k) value) (λ _.
+    gives_refuse (MayWriteIt h) (nat_lt (most_bytes h.place.version) from.count) code.TooBig
+    (stored h (own_key h.place k) value) (λ _.
     stored_may h (own_key h.place k) value (inl refl)))))
 
-foreign_may : (h : HostState) (m : List ℕ) (from at space of : Pair) → Gives (MayWriteIt h) (state_foreign_set h m from at space of)
+foreign_may : (h : HostState) (m : List ℕ) (from at space of : Pair) →
+    Gives (MayWriteIt h) (state_foreign_set h m from at space of)
 foreign_may h m from at space of =
     gives_then (MayWriteIt h) (read m from) _ (λ value _.
     gives_then (MayWriteIt h) (read m at) _ (λ bytes _.
@@ -117,7 +132,8 @@ foreign_may h m from at space of =
     gives_refuse (MayWriteIt h) (not (may_write_at h (foreign_key h.place account namespace k))) code.NotAuthorized
     (stored h (foreign_key h.place account namespace k) value) (λ e.
     stored_may h (foreign_key h.place account namespace k) value
-    (may_write_means h.before h.place.hash h.place.account (owner_of h.place account) (namespace_of h.place namespace) (not_false _ e))))))))))
+    (may_write_means h.before h.place.hash h.place.account (owner_of h.place account) (namespace_of h.place namespace)
+    (not_false _ e))))))))))
 
 state_may : (h : HostState) (row : ℕ) (a m : List ℕ) → Gives (MayWriteIt h) (state_row h row a m)
 unfolding state_row
@@ -132,7 +148,8 @@ state_leads : (h : HostState) (row : ℕ) (a m : List ℕ) (n : ℤ) (w : StateW
     Leads h (with_write h w)
 state_leads h row a m n w e = leads_write h w (subst (Gives (MayWriteIt h)) e (state_may h row a m))
 
-leads_emission : (h : HostState) (e : Emission) → Emits reads_emitted h.setting.header.seq e → Leads h (with_emission h e)
+leads_emission : (h : HostState) (e : Emission) → Emits reads_emitted h.setting.header.seq e →
+    Leads h (with_emission h e)
 leads_emission h e emits = record {
   setting = refl;
   place = refl;
@@ -169,9 +186,12 @@ emit_waits one h m write from =
     gives_refuse (Waits h) (h.emitting.reserved == 0) code.PrerequisiteNotMet _ (λ _.
     gives_refuse (Waits h) (nat_le h.emitting.reserved h.emitting.emitted) code.TooManyEmittedTxn _ (λ _.
     gives_then (Waits h) (own_burden h.setting h.emitting) _ (λ b given.
-    gives_then (Waits h) (ok_or (accepted blob (context_of h.setting h.place b) h.emitting.unused) code.EmissionFailure) _ (λ e is.
-    gives_refuse (Waits h) (nat_lt e.transaction.fee (needed_fee h.before e.transaction * b)) code.EmissionFailure _ (λ _.
-    gives_refuse (Waits h) (nat_le (2 ^ 63 - 1) (h.next + length h.draft.emissions)) code.EmissionFailure (Ok (writes e.transaction.id.0, e)) (λ _.
+    gives_then (Waits h) (ok_or (accepted blob (context_of h.setting h.place b) h.emitting.unused) code.EmissionFailure)
+    _ (λ e is.
+    gives_refuse (Waits h) (nat_lt e.transaction.fee (needed_fee h.before e.transaction * b)) code.EmissionFailure _
+    (λ _.
+    gives_refuse (Waits h) (nat_le (2 ^ 63 - 1) (h.next + length h.draft.emissions)) code.EmissionFailure
+    (Ok (writes e.transaction.id.0, e)) (λ _.
     accepted_waits one blob (context_of h.setting h.place b) h.emitting.unused e (omega arith) (omega arith)
     (subst (Gives (λ m. m < 2 ^ 63)) given (small_burden h)) (taken _ code.EmissionFailure e is))))))))))
 

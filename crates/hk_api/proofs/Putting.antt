@@ -14,7 +14,13 @@ pub fits : (f : FieldId) (form : Form) (value : List ℕ) → 0 < f.kind → f.k
     form_at f.kind ≡ Some form → IsValue 10 form value → IsFit f value
 fits f form value some small first byte known is = (
   form,
-  record { kind = some; code = first; kind_byte = omega (arith, small); code_byte = byte; no_mark = λ one. no_mark f.kind small },
+  record {
+    kind = some;
+    code = first;
+    kind_byte = omega (arith, small);
+    code_byte = byte;
+    no_mark = λ one. no_mark f.kind small;
+  },
   known,
   is,
 )

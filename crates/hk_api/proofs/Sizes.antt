@@ -1,5 +1,6 @@
 -- How many bytes an object has.
-use Rattle.std.proofs.Common.{◌≡◌, ℕ, ◌+◌, ◌≤◌, ◌<◌, ◌^◌, Bool, true, false, List, [], ◌∷◌, ◌++◌, length, arith, Option, Some, None, nat_lt, nat_le, if◌then◌else◌}
+use Rattle.std.proofs.Common.{◌≡◌, ℕ, ◌+◌, ◌≤◌, ◌<◌, ◌^◌, Bool, true, false, List, [], ◌∷◌, ◌++◌, length, arith, Option}
+use Rattle.std.proofs.Common.{Some, None, nat_lt, nat_le, if◌then◌else◌}
 use Rattle.std.proofs.lemmas.List.{length-append}
 use Rattle.xo_fields.specs.declared.field.FieldId.{FieldId}
 use Rattle.xo_fields.specs.declared.form.Form.{Form}
@@ -15,7 +16,8 @@ use Rattle.hk_base.specs.declared.ids.Hash256.{Hash256}
 use Rattle.xo_fields.specs.declared.amount.Amount.TheVariants.{Native}
 use Rattle.xo_fields.specs.Amount.{amount_bytes}
 use Rattle.hk_api.specs.Keylets.{account_space, state_space}
-use Rattle.hk_api.specs.Shown.{item, ledger_entry_type, owner_count_field, balance_field, hook_state_key, hook_state_data, account_fields, state_fields}
+use Rattle.hk_api.specs.Shown.{item, ledger_entry_type, owner_count_field, balance_field, hook_state_key}
+use Rattle.hk_api.specs.Shown.{hook_state_data, account_fields, state_fields}
 
 few_by : (a b : Bool) (x y : List ℕ) (u v : List ℕ) → length x ≤ 3 → length y ≤ 3 → length u ≤ 3 → length v ≤ 3 →
     length (if a then (if b then x else y) else (if b then u else v)) ≤ 3
@@ -25,7 +27,8 @@ few_by false true x y u v p q r s = r
 few_by false false x y u v p q r s = s
 
 header_few : (f : FieldId) → length (header f) ≤ 3
-header_few f = few_by (nat_lt f.kind 16) (nat_lt f.code 16) _ _ _ _ (omega arith) (omega arith) (omega arith) (omega arith)
+header_few f =
+    few_by (nat_lt f.kind 16) (nat_lt f.code 16) _ _ _ _ (omega arith) (omega arith) (omega arith) (omega arith)
 
 prefix_by : (a b : Bool) (x y z : List ℕ) → length x ≤ 3 → length y ≤ 3 → length z ≤ 3 →
     length (if a then x else if b then y else z) ≤ 3
@@ -40,8 +43,10 @@ body_few : (form : Option Form) (v : List ℕ) → length (body_of form v) ≤ 3
 body_few None v = omega arith
 body_few (Some (Fixed n)) v = omega arith
 body_few (Some Money) v = omega arith
-body_few (Some Blob) v = let few = prefix_few (length v) in let sum = length-append (prefix (length v)) v in omega (arith, few, sum)
-body_few (Some Account) v = let few = prefix_few (length v) in let sum = length-append (prefix (length v)) v in omega (arith, few, sum)
+body_few (Some Blob) v =
+    let few = prefix_few (length v) in let sum = length-append (prefix (length v)) v in omega (arith, few, sum)
+body_few (Some Account) v =
+    let few = prefix_few (length v) in let sum = length-append (prefix (length v)) v in omega (arith, few, sum)
 body_few (Some Object) v = let sum = length-append v (225 ∷ []) in omega (arith, sum)
 body_few (Some Array) v = let sum = length-append v (241 ∷ []) in omega (arith, sum)
 

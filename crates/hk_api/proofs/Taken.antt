@@ -24,7 +24,8 @@ module _ (bytes : List ℕ) (found : Option Seen) (read : option_map items found
         by_fields bytes (Some (items object)) (sym read ∙ ap (option_map items) some)
         ∙ ap (λ b. option_or (transaction_of false (items object) b) (transaction_of true (items object) b)) (sym same)
 
-    pub sent_read : (sent : Option Transaction) (t : Transaction) → sent ≡ transaction_of false (items object) object.bytes →
+    pub sent_read : (sent : Option Transaction) (t : Transaction) →
+        sent ≡ transaction_of false (items object) object.bytes →
         sent ≡ Some t → transaction_in bytes ≡ Some t
     sent_read sent t is there =
         by_object ∙ ap (λ o. option_or o (transaction_of true (items object) object.bytes)) (sym is ∙ there)

@@ -1,5 +1,6 @@
 -- Walks over the entries of one kind, and over those of one account.
-use Rattle.std.proofs.Common.{◌≡◌, ◌∙◌, ℕ, ◌+◌, ◌-◌, ◌^◌, ◌<◌, min, sym, ap, refl, arith, Bool, true, false, if◌then◌else◌, List, [], ◌∷◌, length, Option}
+use Rattle.std.proofs.Common.{◌≡◌, ◌∙◌, ℕ, ◌+◌, ◌-◌, ◌^◌, ◌<◌, min, sym, ap, refl, arith, Bool, true, false}
+use Rattle.std.proofs.Common.{if◌then◌else◌, List, [], ◌∷◌, length, Option}
 use Rattle.std.specs.declared.cmp.Ordering.TheVariants.{Less}
 use Rattle.std.specs.List.{find}
 use Rattle.std.proofs.lemmas.Bool.{and_parts}
@@ -54,7 +55,8 @@ module _ (m : Entries) (start : Key) (found : Option (Key × Entry)) (least : Le
 
   listed_from : listed (is_of start) m ≡ run (is_of start) (on_from (entries m) found)
   listed_from =
-      own_in (is_of start) (is_from start) (λ k h. (and_parts (is_from start k) (are_alike start k) h).0) (together_of start) m
+      own_in (is_of start) (is_from start) (λ k h. (and_parts (is_from start k) (are_alike start k) h).0)
+      (together_of start) m
       ∙ ap (run (is_of start)) (head_from m start found least)
 
   pub found_from : (index : List ℕ) →

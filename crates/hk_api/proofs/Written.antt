@@ -1,5 +1,6 @@
 -- The host's state after a write of its overlay.
-use Rattle.std.proofs.Common.{◌≡◌, ℕ, List, [], ◌∷◌, refl, sym, ap, subst, ◌∙◌, Option, Some, Result, Ok, Err, OnOk, OnErr}
+use Rattle.std.proofs.Common.{◌≡◌, ℕ, List, [], ◌∷◌, refl, sym, ap, subst, ◌∙◌, Option, Some, Result, Ok, Err, OnOk}
+use Rattle.std.proofs.Common.{OnErr}
 use Rattle.hk_emit.specs.declared.emission.Emission.{Emission}
 use Rattle.hk_state.specs.declared.entry.Entry.{Entry}
 use Rattle.hk_state.specs.declared.entry.Entry.TheVariants as entry
@@ -20,7 +21,8 @@ pub change_kept : (bytes : List ℕ) → (bytes ≡ [] → ⊥) → Some (entry.
 change_kept [] some = absurd (some refl)
 change_kept (b ∷ bs) some = refl
 
-module _ (m : Entries) (w v : Writes) (es : List Emission) (q : StateKey) (bytes : List ℕ) (k : Key) (change : Option Entry)
+module _ (m : Entries) (w v : Writes) (es : List Emission) (q : StateKey) (bytes : List ℕ) (k : Key)
+    (change : Option Entry)
     (at : k ≡ as_key q) (to : change ≡ change_to bytes) where
   pub draft_written : v ≡ written w k change → draft_of m v es ≡ write_state q bytes (draft_of m w es)
   draft_written is = ap (λ x. draft_of m x es) (is ∙ (λ i. written w (at i) (to i))) ∙ write_draft m w es q bytes

@@ -1,5 +1,6 @@
 -- How calls end: what holds of each group's end holds of every call's.
-use Rattle.std.specs.Prelude.{◌≡◌, ℕ, ◌==◌, nat_lt, ℤ, pos, Bool, true, false, List, length, Ok, Err, refl, if◌then◌else◌}
+use Rattle.std.specs.Prelude.{◌≡◌, ℕ, ◌==◌, nat_lt, ℤ, pos, Bool, true, false, List, length, Ok, Err, refl}
+use Rattle.std.specs.Prelude.{if◌then◌else◌}
 use Rattle.std.proofs.Common.{◌∙◌, ap, sym}
 use Rattle.hk_calls.specs.Answers.{changing}
 use Rattle.hk_calls.specs.Arguments.{narrow_at, pair_of}
@@ -12,10 +13,12 @@ use Rattle.hk_slots.specs.Slots.{SlotMap}
 use Rattle.hk_api_parts.specs.declared.chain_state.ChainState.{ChainState}
 use Rattle.hk_api_parts.specs.declared.emitting.Emitting.{Emitting}
 use Rattle.hk_api_parts.specs.Emitting.{etxn_reserve, drawing}
-use Rattle.hk_api.specs.HostState.{HostState, StateWrite, with_write, with_chain, with_slots, with_emitting, with_emission}
+use Rattle.hk_api.specs.HostState.{HostState, StateWrite, with_write, with_chain, with_slots, with_emitting}
+use Rattle.hk_api.specs.HostState.{with_emission}
 use Rattle.hk_api.specs.Emissions.{emit}
 use Rattle.hk_api.specs.Fee.{etxn_fee_base}
-use Rattle.hk_api.specs.Table.{left, left_drawn, issuing, is_chain_row, chain_row, is_slot_row, slot_row, is_state_row, state_row, is_drawing_row, drawing_row, asking_row, api_row, Given, given, answers}
+use Rattle.hk_api.specs.Table.{left, left_drawn, issuing, is_chain_row, chain_row, is_slot_row, slot_row, is_state_row}
+use Rattle.hk_api.specs.Table.{state_row, is_drawing_row, drawing_row, asking_row, api_row, Given, given, answers}
 
 abbrev pub ends : ℤ → List ℕ → HostState → Given
 ends n memory after = record { answer = n; memory = memory; after = after }

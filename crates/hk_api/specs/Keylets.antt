@@ -1,6 +1,7 @@
 -- Entries of the ledger by their indexes, and how many an account owns (this project's own, after the keylets of the
 -- XRPL Hooks).
-use Rattle.std.specs.Prelude.{ℕ, ◌+◌, ◌-◌, ◌^◌, min, ◌&&◌, ◌||◌, eqb, Bool, true, false, List, [], ◌∷◌, length, replicate, Option, if◌then◌else◌}
+use Rattle.std.specs.Prelude.{ℕ, ◌+◌, ◌-◌, ◌^◌, min, ◌&&◌, ◌||◌, eqb, Bool, true, false, List, [], ◌∷◌, length}
+use Rattle.std.specs.Prelude.{replicate, Option, if◌then◌else◌}
 use Rattle.std.specs.List.{find, filter, starts_with}
 use Rattle.std.specs.Str.{bytes_eq}
 use Rattle.std.specs.FinMap.{entries}

@@ -1,5 +1,6 @@
 -- Rows 54 to 57 of the table of calls: what hooks keep on the ledger (this project's own, after the XRPL Hooks).
-use Rattle.std.specs.Prelude.{ℕ, ◌+◌, ◌-◌, ◌*◌, ◌==◌, ◌&&◌, ◌||◌, not, nat_lt, Bool, ℤ, pos, List, length, Option, Some, None, Ok, if◌then◌else◌}
+use Rattle.std.specs.Prelude.{ℕ, ◌+◌, ◌-◌, ◌*◌, ◌==◌, ◌&&◌, ◌||◌, not, nat_lt, Bool, ℤ, pos, List, length, Option, Some}
+use Rattle.std.specs.Prelude.{None, Ok, if◌then◌else◌}
 use Rattle.std.specs.Option.{option_map_or}
 use Rattle.std.specs.FinMap.{get}
 use Rattle.hk_base.specs.declared.ids.AccountId.{AccountId}

@@ -11,12 +11,16 @@ use Rattle.hk_emit.specs.declared.emission.Emission.{Emission}
 use Rattle.hk_slots.specs.Slots.{SlotMap}
 use Rattle.hk_api_parts.specs.declared.chain_state.ChainState.{ChainState}
 use Rattle.hk_api_parts.specs.declared.emitting.Emitting.{Emitting}
-use Rattle.hk_api_parts.specs.Settings.{fee_base, ledger_seq, ledger_last_time, ledger_last_hash, otxn_type, otxn_id, otxn_field, otxn_param, otxn_burden, otxn_generation}
+use Rattle.hk_api_parts.specs.Settings.{fee_base, ledger_seq, ledger_last_time, ledger_last_hash, otxn_type, otxn_id}
+use Rattle.hk_api_parts.specs.Settings.{otxn_field, otxn_param, otxn_burden, otxn_generation}
 use Rattle.hk_api_parts.specs.Places.{hook_account, hook_pos}
 use Rattle.hk_api_parts.specs.Overrides.{hook_param_set}
-use Rattle.hk_api_parts.specs.SlotRows.{otxn_slot, slot, slot_clear, slot_count, slot_size, slot_subfield, slot_subarray, slot_type, slot_float}
-use Rattle.hk_api_parts.specs.Emitting.{ledger_nonce, etxn_reserve, etxn_burden, etxn_generation, etxn_nonce, etxn_details, drawing}
-use Rattle.hk_api.specs.HostState.{HostState, StateWrite, with_write, with_chain, with_slots, with_emitting, with_emission}
+use Rattle.hk_api_parts.specs.SlotRows.{otxn_slot, slot, slot_clear, slot_count, slot_size, slot_subfield}
+use Rattle.hk_api_parts.specs.SlotRows.{slot_subarray, slot_type, slot_float}
+use Rattle.hk_api_parts.specs.Emitting.{ledger_nonce, etxn_reserve, etxn_burden, etxn_generation, etxn_nonce}
+use Rattle.hk_api_parts.specs.Emitting.{etxn_details, drawing}
+use Rattle.hk_api.specs.HostState.{HostState, StateWrite, with_write, with_chain, with_slots, with_emitting}
+use Rattle.hk_api.specs.HostState.{with_emission}
 use Rattle.hk_api.specs.States.{state, state_set, state_foreign, state_foreign_set}
 use Rattle.hk_api.specs.Emissions.{emit}
 use Rattle.hk_api.specs.Fee.{etxn_fee_base}
@@ -135,7 +139,8 @@ api_row s row a m =
     if is_state_row row then changing (λ w. left m (with_write s w)) (state_row s row a m) else
     if row == 58 then changing (λ e. left m (with_emitting s e)) (etxn_reserve s.emitting (narrow_at a 0)) else
     if is_drawing_row row then changing (left_drawn s) (drawing m (pair_of a 0) (drawing_row s row a m)) else
-    if row == 63 then changing (λ memory. left memory s) (outcome a m (answering (etxn_fee_base s m (pair_of a 0)))) else
+    if row == 63 then changing (λ memory. left memory s) (outcome a m (answering (etxn_fee_base s m (pair_of a 0))))
+    else
     if row == 64 then issuing s m (pair_of a 0) (emit s m (pair_of a 0) (pair_of a 2)) else
     changing (λ memory. left memory s) (outcome a m (asking_row s row a m))
 

@@ -1,5 +1,6 @@
 //! Row 64: emissions.
-ghost use Rattle.std.specs.Prelude.{◌≡◌, ◌+◌, ◌-◌, ◌*◌, ◌<◌, ◌≤◌, ◌^◌, nat_lt, nat_le, length, ok_or, [], IfOk, OnOk, OnErr};
+ghost use Rattle.std.specs.Prelude.{◌≡◌, ◌+◌, ◌-◌, ◌*◌, ◌<◌, ◌≤◌, ◌^◌, nat_lt, nat_le, length, ok_or, [], IfOk, OnOk};
+ghost use Rattle.std.specs.Prelude.{OnErr};
 ghost use Rattle.hk_calls.specs.Answers.{GaveUnless, ShowsUnless};
 ghost use Rattle.hk_calls.specs.declared.code.Code.TheVariants as code;
 ghost use Rattle.hk_emit.specs.Accepted.{accepted};

@@ -85,7 +85,8 @@ pub(crate) fn entry_at<'a>(
 /// A count, and one more for each entry of the account and the kind of a first key.
 fn counted(ledger: &Ledger, overlay: &Overlay, first: &Key, before: u32) -> u32
     ensures { result ≡
-        min (before + length (rows.listed (is_own first.now) (with_writes ledger.now.entries overlay.now))) (2 ^ 32 - 1) }
+        min (before + length (rows.listed (is_own first.now) (with_writes ledger.now.entries overlay.now)))
+        (2 ^ 32 - 1) }
 {
     let mut count = before;
     let mut next = overlay.least_from(ledger, first);

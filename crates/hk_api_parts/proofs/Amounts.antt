@@ -26,4 +26,5 @@ amount_none one bytes r gives never = by_answer (amount_of bytes) refl
     by_answer None e = e
     by_answer (Some a) e =
         let is : IsThis bytes a = (amount_found bytes).sound a e in
-        absurd (never a (one bytes r (Whole a (length bytes)) gives (is.0, omega arith, all_bytes bytes (length bytes) refl ∙ is.1)))
+        absurd (never a
+        (one bytes r (Whole a (length bytes)) gives (is.0, omega arith, all_bytes bytes (length bytes) refl ∙ is.1)))

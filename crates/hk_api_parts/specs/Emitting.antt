@@ -1,6 +1,7 @@
 -- Rows 31 and 58 to 62 of the table of calls: what an execution reserves and draws (this project's own, after the XRPL
 -- Hooks).
-use Rattle.std.specs.Prelude.{ℕ, ◌+◌, ◌-◌, ◌^◌, min, ◌==◌, nat_lt, nat_le, not, ℤ, pos, List, [], ◌∷◌, ◌++◌, ok_or, Ok, if◌then◌else◌}
+use Rattle.std.specs.Prelude.{ℕ, ◌+◌, ◌-◌, ◌^◌, min, ◌==◌, nat_lt, nat_le, not, ℤ, pos, List, [], ◌∷◌, ◌++◌, ok_or, Ok}
+use Rattle.std.specs.Prelude.{if◌then◌else◌}
 use Rattle.hk_base.specs.declared.ids.Hash256.{Hash256}
 use Rattle.hk_base.specs.Hashes.{sha512half}
 use Rattle.hk_calls.specs.declared.arguments.Pair.{Pair}

@@ -1,6 +1,7 @@
 -- Parameters by their names, those that a hook overrides for the hooks of a hash, and row 36 of the table of calls
 -- (this project's own, after the XRPL Hooks).
-use Rattle.std.specs.Prelude.{ℕ, ◌==◌, ◌&&◌, nat_lt, nat_le, Bool, not, is_none, ℤ, pos, List, [], ◌∷◌, ◌++◌, length, slice_get, slice_set, Option, Some, None, option_map, Ok, if◌then◌else◌}
+use Rattle.std.specs.Prelude.{ℕ, ◌==◌, ◌&&◌, nat_lt, nat_le, Bool, not, is_none, ℤ, pos, List, [], ◌∷◌, ◌++◌, length}
+use Rattle.std.specs.Prelude.{slice_get, slice_set, Option, Some, None, option_map, Ok, if◌then◌else◌}
 use Rattle.std.specs.List.{find, count_by, position}
 use Rattle.std.specs.Option.{option_and_then}
 use Rattle.std.specs.Str.{bytes_eq}

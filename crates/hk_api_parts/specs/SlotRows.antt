@@ -1,6 +1,7 @@
 -- Rows 41, 45 and 47 to 53 of the table of calls: slots (this project's own, after the XRPL Hooks). Row 46 needs the
 -- ledger.
-use Rattle.std.specs.Prelude.{ℕ, ◌==◌, not, nat_lt, ℤ, pos, negsuc, Bool, false, List, length, Option, Some, None, ok_or, Result, Ok, Err, if◌then◌else◌}
+use Rattle.std.specs.Prelude.{ℕ, ◌==◌, not, nat_lt, ℤ, pos, negsuc, Bool, false, List, length, Option, Some, None}
+use Rattle.std.specs.Prelude.{ok_or, Result, Ok, Err, if◌then◌else◌}
 use Rattle.std.specs.Option.{option_map_or}
 use Rattle.xo_fields.specs.declared.amount.Amount.{Amount}
 use Rattle.xo_fields.specs.declared.amount.Amount.TheVariants.{Native, Issued}
@@ -17,7 +18,8 @@ use Rattle.hk_calls.specs.Outputs.{Output, writes_or_number}
 use Rattle.hk_calls.specs.Rules.{OrCode, ◌>>=◌, ◌>>◌, refuse, inside, field}
 use Rattle.hk_slots.specs.declared.fault.SlotFault.{SlotFault}
 use Rattle.hk_slots.specs.declared.fault.SlotFault.TheVariants as faults
-use Rattle.hk_slots.specs.Slots.{SlotMap, Slotted, bytes_at, kind_at, count_at, cleared, with_object, with_subfield, with_element}
+use Rattle.hk_slots.specs.Slots.{SlotMap, Slotted, bytes_at, kind_at, count_at, cleared, with_object, with_subfield}
+use Rattle.hk_slots.specs.Slots.{with_element}
 use Rattle.hk_api_parts.specs.declared.setting.Setting.{Setting}
 
 -- the code of a fault; no definition gives the last one

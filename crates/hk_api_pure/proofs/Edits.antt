@@ -1,5 +1,7 @@
 -- Parts and edits by relation are those by function.
-use Rattle.std.proofs.Common.{◌≡◌, ℕ, zero, suc, ◌+◌, ◌-◌, ◌<◌, ◌≤◌, ◌⊎◌, inl, inr, Bool, true, false, ◌||◌, List, [], ◌∷◌, ◌++◌, length, take, drop, refl, sym, ap, subst, ◌∙◌, arith, length-take, length-drop, Option, Some, None, Ok, Err, nat_lt, if◌then◌else◌}
+use Rattle.std.proofs.Common.{◌≡◌, ℕ, zero, suc, ◌+◌, ◌-◌, ◌<◌, ◌≤◌, ◌⊎◌, inl, inr, Bool, true, false, ◌||◌, List, []}
+use Rattle.std.proofs.Common.{◌∷◌, ◌++◌, length, take, drop, refl, sym, ap, subst, ◌∙◌, arith, length-take, length-drop}
+use Rattle.std.proofs.Common.{Option, Some, None, Ok, Err, nat_lt, if◌then◌else◌}
 use Rattle.std.specs.Prelude.{slice_get, option_map, IsSome}
 use Rattle.std.proofs.lemmas.Bool.Decides.{nat_tests}
 use Rattle.std.proofs.lemmas.List.{take_at}
@@ -15,6 +17,7 @@ use Rattle.hk_calls.specs.declared.code.Code.TheVariants as code
 use Rattle.hk_calls.specs.Rules.{OrCode, ◌>>=◌, ◌>>◌, refuse, found}
 use Rattle.hk_api_pure.specs.Editing.{object_fields, parsed, subfield, span_behind, subarray, only, emplaced, erased}
 use Rattle.hk_api_pure.proofs.Readings.{fields_are, are_fields, no_fields, elements_are, no_elements}
+use Rattle.xo_list.proofs.ListLemmas.{one_field}
 
 -- parts
 
@@ -88,12 +91,6 @@ put_into is_big reading put f = do
 same_itself : (f : FieldId) → is_same f f ≡ true
 same_itself f = grind (arith, nat_tests)
 
-same_field : (f g : FieldId) → is_same f g ≡ true → f ≡ g
-same_field f g e =
-    let kind : f.kind ≡ g.kind = grind (arith, nat_tests) in
-    let last : f.code ≡ g.code = grind (arith, nat_tests) in
-    (λ i. record { kind = kind i; code = last i })
-
 not_only : (bytes : List ℕ) (f : FieldId) → (IsField bytes f → ⊥) → only f (object_fields bytes) ≡ None
 not_only bytes f never = by_reading (object_fields bytes) refl
   where
@@ -102,7 +99,7 @@ not_only bytes f never = by_reading (object_fields bytes) refl
     by_test x false e h = refl
     by_test x true e h =
         let IsAlone : FieldId → Type 0 = λ g. IsObject (record { field = g; value = x.value } ∷ []) bytes in
-        absurd (never (x.value, subst IsAlone (same_field x.field f e) (are_fields bytes (x ∷ []) h)))
+        absurd (never (x.value, subst IsAlone (one_field x.field f e) (are_fields bytes (x ∷ []) h)))
 
     by_reading : (reading : Option (List Item)) → object_fields bytes ≡ reading → only f (object_fields bytes) ≡ None
     by_reading None e = ap (only f) e

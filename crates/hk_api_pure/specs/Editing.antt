@@ -1,6 +1,7 @@
 -- Parts and edits of objects that stand as bytes, as functions of the bytes (xrpl.org, "Serialization Format"; the
 -- limits are this project's own): the list of fields, the list's edit, and that list as it is written.
-use Rattle.std.specs.Prelude.{ℕ, ◌+◌, ◌||◌, nat_lt, List, [], ◌∷◌, length, take, slice_get, Option, Some, None, ok_or, option_map, Ok, if◌then◌else◌}
+use Rattle.std.specs.Prelude.{ℕ, ◌+◌, ◌||◌, nat_lt, List, [], ◌∷◌, length, take, slice_get, Option, Some, None, ok_or}
+use Rattle.std.specs.Prelude.{option_map, Ok, if◌then◌else◌}
 use Rattle.xo_fields.specs.declared.field.FieldId.{FieldId}
 use Rattle.xo_list.specs.declared.span.Span.{Span}
 use Rattle.xo_list.specs.Item.{Item, spell, is_same, lookup, without, with_item}

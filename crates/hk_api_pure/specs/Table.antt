@@ -6,7 +6,8 @@ use Rattle.hk_calls.specs.Outputs.{Output, answering, outcome, given}
 use Rattle.hk_calls.specs.Rules.{OrCode}
 use Rattle.hk_api_pure.specs.Hashes.{util_sha512h, util_keylet}
 use Rattle.hk_api_pure.specs.Objects.{sto_subfield, sto_subarray, sto_emplace, sto_erase, sto_validate}
-use Rattle.hk_api_pure.specs.Decimals.{float_one, float_set, float_multiply, float_mulratio, float_divide, float_invert, float_sum, float_negate, float_compare, float_mantissa, float_sign, float_int}
+use Rattle.hk_api_pure.specs.Decimals.{float_one, float_set, float_multiply, float_mulratio, float_divide, float_invert}
+use Rattle.hk_api_pure.specs.Decimals.{float_sum, float_negate, float_compare, float_mantissa, float_sign, float_int}
 use Rattle.hk_api_pure.specs.Amounts.{float_sto, float_sto_set}
 use Rattle.hk_api_pure.specs.Traces.{trace, trace_number}
 

@@ -15,7 +15,8 @@ lines_end [] = refl
 lines_end (byte ∷ front) = ap (kept byte) (lines_end front) ∙ kept_more byte 10 front
 
 -- another byte at the end belongs to none
-pub lines_before : (front : List ℕ) (last : ℕ) → last == 10 ≡ false → whole_lines (front ++ last ∷ []) ≡ whole_lines front
+pub lines_before : (front : List ℕ) (last : ℕ) → last == 10 ≡ false →
+    whole_lines (front ++ last ∷ []) ≡ whole_lines front
 lines_before [] last apart = ap (λ test. if test then last ∷ [] else []) apart
 lines_before (byte ∷ front) last apart = ap (kept byte) (lines_before front last apart)
 

@@ -1,12 +1,14 @@
 -- What a text is told, by its length.
-use Rattle.std.proofs.Common.{◌≡◌, ◌≤◌, ◌<◌, ◌+◌, ℕ, nat_le, Bool, true, false, if◌then◌else◌, List, [], ◌++◌, length, take, Some, None, refl, ap, sym, ◌∙◌, arith}
+use Rattle.std.proofs.Common.{◌≡◌, ◌≤◌, ◌<◌, ◌+◌, ℕ, nat_le, Bool, true, false, if◌then◌else◌, List, [], ◌++◌, length}
+use Rattle.std.proofs.Common.{take, Some, None, refl, ap, sym, ◌∙◌, arith}
 use Rattle.std.proofs.lemmas.Bool.Decides.{nat_tests}
 use Rattle.std.proofs.lemmas.List.{take_all}
 use Rattle.hk_lines.specs.Given.{Close, opened, ended, full, Given}
 use Rattle.hk_lines.specs.declared.status.Status.{Status}
 use Rattle.hk_lines.specs.declared.status.Status.TheVariants.{Done, BadInput, TooLong}
 use Rattle.wa_text.specs.Meaning.{Meaning, means, breaks, unended, meaning}
-use Rattle.hk_asm.specs.Assembling.{longest_text, undone, told, whole_lines, told_at, asm_given, Tells, GivesStatus, ShownLate}
+use Rattle.hk_asm.specs.Assembling.{longest_text, undone, told, whole_lines, told_at, asm_given, Tells, GivesStatus}
+use Rattle.hk_asm.specs.Assembling.{ShownLate}
 
 -- where the limit is reached, what comes behind changes nothing
 pub told_full : (bytes : List ℕ) (close : Close) → longest_text ≤ length bytes →

@@ -1,5 +1,6 @@
 -- What `asm` gives for the bytes of its input: the lines of the hook that the text means (this project's own).
-use Rattle.std.specs.Prelude.{◌≡◌, ℕ, ◌<◌, ◌==◌, nat_le, Bool, true, false, if◌then◌else◌, List, [], ◌∷◌, ◌++◌, length, take, codes, Option, Some, None}
+use Rattle.std.specs.Prelude.{◌≡◌, ℕ, ◌<◌, ◌==◌, nat_le, Bool, true, false, if◌then◌else◌, List, [], ◌∷◌, ◌++◌, length}
+use Rattle.std.specs.Prelude.{take, codes, Option, Some, None}
 use Rattle.std.specs.Fmt.{decimal}
 use Rattle.hk_base.specs.Hexadecimal.{hex_text}
 use Rattle.hk_lines.specs.Given.{Close, opened, ended, full, Given, bad, too_long}
@@ -9,7 +10,8 @@ use Rattle.hk_lines.specs.declared.status.Status.TheVariants.{Done, BadInput}
 use Rattle.wa_encode.specs.Modules.{encoded}
 use Rattle.wa_text.specs.Meaning.{Meaning, means, breaks, unended, meaning}
 use Rattle.wa_text.specs.declared.fault.AsmRule.{AsmRule}
-use Rattle.wa_text.specs.declared.fault.AsmRule.TheVariants.{BadWord, BadShape, BadOrder, UnknownName, RepeatedName, Unbalanced}
+use Rattle.wa_text.specs.declared.fault.AsmRule.TheVariants.{BadWord, BadShape, BadOrder, UnknownName, RepeatedName}
+use Rattle.wa_text.specs.declared.fault.AsmRule.TheVariants.{Unbalanced}
 
 -- the bytes of input that are taken
 abbrev pub longest_text : ℕ
@@ -55,7 +57,8 @@ abbrev pub whole_lines : List ℕ → List ℕ
 whole_lines [] = []
 whole_lines (byte ∷ bytes) = kept byte (whole_lines bytes)
 
--- nothing is told before the text is whole; where the limit is reached, its last line isn't looked at unless it is whole
+-- nothing is told before the text is whole; where the limit is reached, its last line isn't looked at unless it is
+-- whole
 abbrev pub told_at : Close → List ℕ → Given
 told_at opened text = record { text = []; status = None }
 told_at ended text = told false (meaning text)

@@ -1,9 +1,11 @@
 -- Hex text by this crate's definitions is hex text by those of the crate `hex`, and it fails where it is said to.
-use Rattle.std.proofs.Common.{◌≡◌, ℕ, suc, zero, ◌+◌, ◌*◌, ◌/◌, ◌%◌, ◌<◌, ◌⊎◌, inl, inr, List, [], ◌∷◌, length, slice_index_or, Option, Some, None, Result, Ok, Err, refl, sym, ap, ◌∙◌, arith, Any}
+use Rattle.std.proofs.Common.{◌≡◌, ℕ, suc, zero, ◌+◌, ◌*◌, ◌/◌, ◌%◌, ◌<◌, ◌⊎◌, inl, inr, List, [], ◌∷◌, length}
+use Rattle.std.proofs.Common.{slice_index_or, Option, Some, None, Result, Ok, Err, refl, sym, ap, ◌∙◌, arith, Any}
 use Rattle.std.proofs.lemmas.Bool.{cases_eq}
 use Rattle.hex.proofs.HexLemmas.{decode_of-even}
 use Rattle.hk_base.specs.Hexadecimal.{digit_value, pair_value, all_of, hex_bytes, lower_digit, hex_text}
-use Rattle.hex.specs.Hex.{encode_with, encode_lower, hex_digit_value, decode_pairs, decode_of, value_at, digit_or_error, ◌>>=◌}
+use Rattle.hex.specs.Hex.{encode_with, encode_lower, hex_digit_value, decode_pairs, decode_of, value_at, digit_or_error}
+use Rattle.hex.specs.Hex.{◌>>=◌}
 use Rattle.hex.specs.Hex as hex
 use Rattle.hex.specs.declared.error.FromHexError.{FromHexError}
 
@@ -11,7 +13,8 @@ use Rattle.hex.specs.declared.error.FromHexError.{FromHexError}
 pub encode_lower-is : (bytes : List ℕ) → encode_lower bytes ≡ hex_text bytes
 unfolding encode_with
 encode_lower-is [] = refl
-encode_lower-is (byte ∷ bytes) = ap (λ text. lower_digit (byte / 16) ∷ lower_digit (byte % 16) ∷ text) (encode_lower-is bytes)
+encode_lower-is (byte ∷ bytes) =
+    ap (λ text. lower_digit (byte / 16) ∷ lower_digit (byte % 16) ∷ text) (encode_lower-is bytes)
 
 -- ---- the bytes of a text
 
@@ -52,8 +55,10 @@ decode_pairs-is (high ∷ low ∷ text) index =
     joined (hex.pair_value high low index) (decode_pairs (index + 2) text)
     ∙ ap (λ byte. all_of byte (value_of (decode_pairs (index + 2) text)))
     (pair (value_at high index) (value_at low (index + 1))
-    ∙ ap (λ h. pair_value h (value_of (value_at low (index + 1)))) (digit high index (hex_digit_value high) ∙ sym (digit_value-is high))
-    ∙ ap (λ l. pair_value (digit_value high) l) (digit low (index + 1) (hex_digit_value low) ∙ sym (digit_value-is low)))
+    ∙ ap (λ h. pair_value h (value_of (value_at low (index + 1))))
+    (digit high index (hex_digit_value high) ∙ sym (digit_value-is high))
+    ∙ ap (λ l. pair_value (digit_value high) l)
+    (digit low (index + 1) (hex_digit_value low) ∙ sym (digit_value-is low)))
     ∙ ap (λ bytes. all_of (pair_value (digit_value high) (digit_value low)) bytes) (decode_pairs-is text (index + 2))
 
 -- where the rest has no bytes, a text has none
@@ -115,7 +120,8 @@ none_shows (high ∷ low ∷ text) h =
     ]
 
 -- a text with a character that is no digit has no bytes
-bad_has_none : (text : List ℕ) (k x : ℕ) → k < length text → slice_index_or text k x ≡ x → IsNoDigit x → hex_bytes text ≡ None
+bad_has_none : (text : List ℕ) (k x : ℕ) → k < length text → slice_index_or text k x ≡ x → IsNoDigit x →
+    hex_bytes text ≡ None
 bad_has_none [] k x within is bad = absurd (omega arith)
 bad_has_none (high ∷ []) k x within is bad = refl
 bad_has_none (high ∷ low ∷ text) zero x within is bad =

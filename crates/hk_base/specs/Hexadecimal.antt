@@ -1,7 +1,9 @@
 -- Hex text: two digits for each byte, the first of them its high four bits.
-use Rattle.std.specs.Prelude.{ℕ, ◌+◌, ◌-◌, ◌*◌, ◌/◌, ◌%◌, ◌&&◌, nat_le, if◌then◌else◌, List, [], ◌∷◌, slice_index, codes, Option, Some, None}
+use Rattle.std.specs.Prelude.{ℕ, ◌+◌, ◌-◌, ◌*◌, ◌/◌, ◌%◌, ◌&&◌, nat_le, if◌then◌else◌, List, [], ◌∷◌, slice_index}
+use Rattle.std.specs.Prelude.{codes, Option, Some, None}
 
--- the number of a digit of either case: `0` to `9` are the characters 48 to 57, `A` to `F` 65 to 70, `a` to `f` 97 to 102 (ASCII)
+-- the number of a digit of either case: `0` to `9` are the characters 48 to 57, `A` to `F` 65 to 70, `a` to `f` 97 to
+-- 102 (ASCII)
 abbrev pub digit_value : ℕ → Option ℕ
 digit_value character =
     if nat_le 48 character && nat_le character 57 then Some (character - 48)
@@ -19,7 +21,8 @@ abbrev pub all_of : Option ℕ → Option (List ℕ) → Option (List ℕ)
 all_of (Some byte) (Some bytes) = Some (byte ∷ bytes)
 all_of byte bytes = None
 
--- the bytes of a hex text (RFC 4648, section 8, in either case): none where a last digit stands alone or a character is no digit
+-- the bytes of a hex text (RFC 4648, section 8, in either case): none where a last digit stands alone or a character is
+-- no digit
 abbrev pub hex_bytes : List ℕ → Option (List ℕ)
 hex_bytes [] = Some []
 hex_bytes (high ∷ []) = None

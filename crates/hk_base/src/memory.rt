@@ -1,5 +1,6 @@
 //! Sources and sinks in memory.
-ghost use Rattle.std.specs.Prelude.{◌≡◌, ◌<◌, ◌≤◌, ◌++◌, ◌↔◌, [], length, min, take, drop, is_err, if◌then◌else◌, Contains, Some, Ok, IfErr, IfOk, IsErr, IsErrOf, IsTrue, OnErr, OnOk};
+ghost use Rattle.std.specs.Prelude.{◌≡◌, ◌<◌, ◌≤◌, ◌++◌, ◌↔◌, [], length, min, take, drop, is_err, if◌then◌else◌};
+ghost use Rattle.std.specs.Prelude.{Contains, Some, Ok, IfErr, IfOk, IsErr, IsErrOf, IsTrue, OnErr, OnOk};
 ghost use Rattle.hk_base.specs.Outside.{last_count, next_count, told_count};
 ghost use Rattle.std.proofs.Math.Nat.{min-le_right};
 
@@ -162,7 +163,8 @@ impl Source for MemSource {
     fn read(&mut self, into: &mut [u8]) -> Result<usize, Failed>
         requires room { 0 < length into.old }
         ensures fails { IsErr result ↔ Contains self.old.failing (next_count self.old.calls) }
-        ensures count { IfOk result (λ count. count ≡ min self.old.piece (min (length into.old) (length self.old.left))) }
+        ensures count { IfOk result
+            (λ count. count ≡ min self.old.piece (min (length into.old) (length self.old.left))) }
         ensures within { IfOk result (λ count. count ≤ length into.new) }
         ensures moved { IfOk result (λ count. self.old.left ≡ take count into.new ++ self.new.left) }
         ensures end { IfOk result (λ count. count ≡ 0 → self.new.left ≡ []) }

@@ -28,7 +28,8 @@ impl From<AllocError> for SinkStop {
 
 /// Where input comes from.
 ///
-/// Its meanings are the bytes that are left, where it tells them, and a count of its faults, which never falls and is at most
+/// Its meanings are the bytes that are left, where it tells them, and a count of its faults, which never falls and is
+/// at most
 /// 18,446,744,073,709,551,615, where it stops.
 pub trait Source {
     /// The bytes not yet read, where the source tells them.
@@ -53,7 +54,8 @@ pub trait Source {
 
 /// Where output goes to.
 ///
-/// Its meanings are the bytes that were written, where it tells them, and a count of its faults, which never falls and is at
+/// Its meanings are the bytes that were written, where it tells them, and a count of its faults, which never falls and
+/// is at
 /// most 18,446,744,073,709,551,615, where it stops.
 pub trait Sink {
     /// The bytes written so far, where the sink tells them.

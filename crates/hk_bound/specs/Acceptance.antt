@@ -1,5 +1,6 @@
 -- Acceptance of code as a function, in each version of the machine (this project's own).
-use Rattle.std.specs.Prelude.{ℕ, ◌≡◌, ◌≢◌, ◌⊎◌, ◌==◌, ◌&&◌, nat_le, List, Bool, true, Option, Some, None, if◌then◌else◌, length}
+use Rattle.std.specs.Prelude.{ℕ, ◌≡◌, ◌≢◌, ◌⊎◌, ◌==◌, ◌&&◌, nat_le, List, Bool, true, Option, Some, None, if◌then◌else◌}
+use Rattle.std.specs.Prelude.{length}
 use Rattle.wa_decode.specs.ModuleReading.{module_at}
 use Rattle.wa_decode.specs.Versions.{has_extensions}
 use Rattle.wa_ops.specs.declared.modules.Module.{Module}
@@ -31,7 +32,9 @@ is_within version is_named m = is_at_most (most version) (export_bound version i
 
 -- short enough, ruled, typed and bounded
 abbrev pub is_allowed : ℕ → List ℕ → Module → Bool
-is_allowed version code m = nat_le (length code) longest && (is_ruled m && (are_typed m && (is_within version is_hook m && is_within version is_cbak m)))
+is_allowed version code m =
+    nat_le (length code) longest &&
+    (is_ruled m && (are_typed m && (is_within version is_hook m && is_within version is_cbak m)))
 
 abbrev pub if_allowed : ℕ → List ℕ → Module → Option Module
 if_allowed version code m = if is_allowed version code m then Some m else None
@@ -42,7 +45,9 @@ accepted version code = and_then (module_in version code) (if_allowed version co
 
 -- that function finds a module exactly of the code that is accepted
 abbrev pub AcceptedIsHook : Type 0
-AcceptedIsHook = (version : ℕ) (code : List ℕ) (m : Module) → (accepted version code ≡ Some m → IsHook version code m) × (IsHook version code m → accepted version code ≡ Some m)
+AcceptedIsHook =
+    (version : ℕ) (code : List ℕ) (m : Module) →
+    (accepted version code ≡ Some m → IsHook version code m) × (IsHook version code m → accepted version code ≡ Some m)
 
 -- a code is refused for a cause of its own, and not for want of memory
 pub record IsFaulty (version : ℕ) (code : List ℕ) : Type 0 where

@@ -13,4 +13,5 @@ bound_of version m func = option_map (bound_at version) (body_of m func)
 
 -- in a version, of the function that is exported so
 abbrev pub export_bound : ℕ → (ModuleExport → Bool) → Module → Option ℕ
-export_bound version is_named m = and_then (entry_of (length (calls_of m.imports)) is_named m.exports) (bound_of version m)
+export_bound version is_named m =
+    and_then (entry_of (length (calls_of m.imports)) is_named m.exports) (bound_of version m)

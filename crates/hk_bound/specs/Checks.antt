@@ -1,4 +1,5 @@
--- The code that is accepted as a hook, in each version of the machine, and why other code is refused (this project's own).
+-- The code that is accepted as a hook, in each version of the machine, and why other code is refused (this project's
+-- own).
 use Rattle.std.specs.Prelude.{ℕ, ◌≡◌, ◌≤◌, ◌<◌, ◌==◌, if◌then◌else◌, List, ◌∷◌, Bool, Option, Some, length}
 use Rattle.hk_base.specs.declared.ids.Hash256.{Hash256}
 use Rattle.hk_base.specs.Hashes.{sha512half}

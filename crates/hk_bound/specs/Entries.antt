@@ -13,7 +13,8 @@ use Rattle.hk_bound.specs.declared.entries.Entry.{Entry}
 pub record IsKept (m : Module) (entry : Entry) : Type 0 where
   pub ends : (body : Sequence) → body_of m entry.function ≡ Some body → entry.ends ≡ ends_of body 0 (0 ∷ [])
   pub locals : entry.locals ≡ length (locals_of (slice_get m.codes entry.function))
-  pub depth : (body : Sequence) → body_of m entry.function ≡ Some body → entry.depth ≡ body_depth (context_of m entry.function) body
+  pub depth : (body : Sequence) → body_of m entry.function ≡ Some body →
+      entry.depth ≡ body_depth (context_of m entry.function) body
 
 -- of the function that is exported so
 pub record IsEntry (m : Module) (is_named : ModuleExport → Bool) (entry : Entry) : Type 0 where

@@ -15,7 +15,9 @@ use Rattle.hk_bound.specs.declared.fault.CheckFault.TheVariants as fault
 
 -- each loop of a module that meets the rules begins with its guard
 abbrev pub GuardedLoops : Type 0
-GuardedLoops = (m : Module) (func : ℕ) (body : Sequence) → IsRuled m → body_of m func ≡ Some body → IsGuarded (calls_of m.imports) body
+GuardedLoops =
+    (m : Module) (func : ℕ) (body : Sequence) → IsRuled m → body_of m func ≡ Some body →
+    IsGuarded (calls_of m.imports) body
 
 -- a defined function from i32 to i64
 pub record IsEntryType (m : Module) (func : ℕ) : Type 0 where
@@ -26,7 +28,8 @@ pub record IsEntryType (m : Module) (func : ℕ) : Type 0 where
 -- `hook` and `cbak` of a module that meets the rules are such functions
 abbrev pub EntryTypes : Type 0
 EntryTypes = (m : Module) (func : ℕ) → IsRuled m
-    → (entry_of (length (calls_of m.imports)) is_hook m.exports ≡ Some func) ⊎ (entry_of (length (calls_of m.imports)) is_cbak m.exports ≡ Some func)
+    → (entry_of (length (calls_of m.imports)) is_hook m.exports ≡ Some func)
+    ⊎ (entry_of (length (calls_of m.imports)) is_cbak m.exports ≡ Some func)
     → IsEntryType m func
 
 -- all that `validate` of wa_validate needs of a module
@@ -41,9 +44,13 @@ Typables = (m : Module) → IsSound m → IsRuled m → IsTypable m
 
 -- no code that is accepted in a version is refused in it
 abbrev pub OneVerdict : Type 0
-OneVerdict = (version : ℕ) (code : List ℕ) (m : Module) (found : CheckFault) → found ≢ fault.NoMemory → IsHook version code m → IsRefused version code found → ⊥
+OneVerdict =
+    (version : ℕ) (code : List ℕ) (m : Module) (found : CheckFault) → found ≢ fault.NoMemory → IsHook version code m →
+    IsRefused version code found → ⊥
 
 -- a code that is refused in a version is refused in one way
 abbrev pub OneRefusal : Type 0
-OneRefusal = (version : ℕ) (code : List ℕ) (first second : CheckFault) → IsRefused version code first → IsRefused version code second
+OneRefusal =
+    (version : ℕ) (code : List ℕ) (first second : CheckFault) → IsRefused version code first →
+    IsRefused version code second
     → first ≢ fault.NoMemory → second ≢ fault.NoMemory → first ≡ second

@@ -9,7 +9,8 @@ use std::marker::Model;
 use wa_ops::Module;
 use wa_validate::Typed;
 
-/// A hook's code that was checked: its version and its module, which is spelled, ruled, typed and bounded, its guards, depths, hash
+/// A hook's code that was checked: its version and its module, which is spelled, ruled, typed and bounded, its guards,
+/// depths, hash
 /// and bounds, and what runs of its exports need.
 #[derive(Debug, Drop)]
 pub struct Checked {
@@ -29,9 +30,31 @@ impl Model for Checked {
 
     ghost Value = { Held };
 
-    ghost view = { λ c. record { version = c.version; wasm = c.«module»; guards = c.guards; typed = c.typed; hash = c.hash; bound_hook = c.bound_hook; bound_cbak = c.bound_cbak; hook_entry = c.hook_entry; cbak_entry = c.cbak_entry } };
+    ghost view = { λ c.
+        record {
+          version = c.version;
+          wasm = c.«module»;
+          guards = c.guards;
+          typed = c.typed;
+          hash = c.hash;
+          bound_hook = c.bound_hook;
+          bound_cbak = c.bound_cbak;
+          hook_entry = c.hook_entry;
+          cbak_entry = c.cbak_entry;
+        } };
 
-    ghost invariant = { λ c. IsHeld (record { version = c.version; wasm = c.«module»; guards = c.guards; typed = c.typed; hash = c.hash; bound_hook = c.bound_hook; bound_cbak = c.bound_cbak; hook_entry = c.hook_entry; cbak_entry = c.cbak_entry }) };
+    ghost invariant = { λ c.
+        IsHeld (record {
+          version = c.version;
+          wasm = c.«module»;
+          guards = c.guards;
+          typed = c.typed;
+          hash = c.hash;
+          bound_hook = c.bound_hook;
+          bound_cbak = c.bound_cbak;
+          hook_entry = c.hook_entry;
+          cbak_entry = c.cbak_entry;
+        }) };
 }
 
 impl Checked {

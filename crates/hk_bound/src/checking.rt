@@ -1,5 +1,6 @@
 ghost use Rattle.hk_bound.specs.Bounds.{export_bound};
-ghost use Rattle.hk_bound.specs.Checks.{AllTyped, BreaksRules, FailsTyping, Holds, IsCbakFault, IsHookFault, IsRefused, IsUnspelled, IsWithin, fault_of, hash_of, most};
+ghost use Rattle.hk_bound.specs.Checks.{AllTyped, BreaksRules, FailsTyping, Holds, IsCbakFault, IsHookFault, IsRefused};
+ghost use Rattle.hk_bound.specs.Checks.{IsUnspelled, IsWithin, fault_of, hash_of, most};
 ghost use Rattle.hk_rules.specs.Guards.{AreGuards};
 ghost use Rattle.std.specs.Prelude.{◌≡◌, ◌==◌, ◌&&◌, ◌<◌, ◌≤◌, ℕ, IfErr, IfOk, OnErr, OnOk, Some};
 ghost use Rattle.wa_decode.specs.Modules.{Spells};
@@ -169,7 +170,8 @@ pub fn check(alloc: Global, code: &[u8]) -> Result<Checked, CheckFault>
 ///
 /// # Errors
 ///
-/// The first that holds: too long, malformed, a rule broken, untyped, the bound of `hook` too large, that of `cbak`; `NoMemory` where
+/// The first that holds: too long, malformed, a rule broken, untyped, the bound of `hook` too large, that of `cbak`;
+/// `NoMemory` where
 /// memory ran out before.
 pub fn check_at(alloc: Global, code: &[u8], version: u16) -> Result<Checked, CheckFault>
     requires known { version ≤ 1 }

@@ -10,7 +10,8 @@ pub enum CheckFault {
     Malformed,
     /// The module breaks a rule.
     Rule(RuleFault),
-    /// The first function that isn't well typed, counted among those that the module defines, and the first of its instructions at which typing fails.
+    /// The first function that isn't well typed, counted among those that the module defines, and the first of its
+    /// instructions at which typing fails.
     Untyped { func: u32, op: u32 },
     /// The bound of an exported function is above 65,535 in version 0, above 262,143 in version 1.
     BoundTooLarge { export: Export, bound: u64 },

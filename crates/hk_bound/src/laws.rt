@@ -21,7 +21,8 @@ pub fn one_refusal()
     ensures law { OneRefusal }
 {}
 
-/// The law that each code is accepted or refused, and refused for a cause of its own: want of memory is no verdict on a code.
+/// The law that each code is accepted or refused, and refused for a cause of its own: want of memory is no verdict on a
+/// code.
 pub fn some_verdict()
     ensures law { SomeVerdict }
 {}

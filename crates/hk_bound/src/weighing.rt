@@ -1,4 +1,5 @@
-ghost use Rattle.hk_bound.specs.Weights.{counted, inner_of, last_turns, savings, spared_by, total, weighed, weight, whole};
+ghost use Rattle.hk_bound.specs.Weights.{counted, inner_of, last_turns, savings, spared_by, total, weighed, weight};
+ghost use Rattle.hk_bound.specs.Weights.{whole};
 ghost use Rattle.std.specs.Option.{option_map_or};
 ghost use Rattle.std.specs.Prelude.{◌≡◌, ◌+◌, ◌*◌, ◌<◌, ◌≤◌, ◌^◌, Some, length, slice_get};
 ghost use Rattle.wa_ops.specs.Soundness.{IsCounted};

@@ -1,5 +1,6 @@
 -- Bytes with zeros before them, and the fields of numbers.
-use Rattle.std.proofs.Common.{◌≡◌, ℕ, ◌-◌, ◌/◌, ◌%◌, ◌≤◌, ◌&&◌, Bool, true, false, List, ◌++◌, length, drop, refl, sym, ap, ◌∙◌, arith, append-nil, if◌then◌else◌, Ok, Err}
+use Rattle.std.proofs.Common.{◌≡◌, ℕ, ◌-◌, ◌/◌, ◌%◌, ◌≤◌, ◌&&◌, Bool, true, false, List, ◌++◌, length, drop, refl, sym}
+use Rattle.std.proofs.Common.{ap, ◌∙◌, arith, append-nil, if◌then◌else◌, Ok, Err}
 use Rattle.std.specs.Prelude.{replicate}
 use Rattle.std.proofs.lemmas.Bool.Decides.{nat_tests}
 use Rattle.std.proofs.lemmas.List.{take-replicate, length-replicate, length-drop, drop_all}
@@ -15,7 +16,8 @@ pub padded_is : (n : ℕ) (bytes copied : List ℕ) → copied ≡ bytes → len
 padded_is n bytes copied same h =
     let front : ℕ = n - length bytes in
     let rest : List ℕ = drop front (replicate n 0) in
-    let size : length rest ≤ n - front = omega (arith, length-drop {A = ℕ} front (replicate n 0), length-replicate {A = ℕ} n 0) in
+    let size : length rest ≤ n - front =
+    omega (arith, length-drop {A = ℕ} front (replicate n 0), length-replicate {A = ℕ} n 0) in
     ap (λ middle. put_mid front (n - front) (replicate n 0) middle) same
     ∙ ap (λ zeros. zeros ++ (bytes ++ drop (n - front) rest)) (take-replicate front n 0 (omega arith))
     ∙ ap (λ back. replicate front 0 ++ (bytes ++ back)) (drop_all (n - front) rest size)

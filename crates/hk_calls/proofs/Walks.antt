@@ -9,16 +9,19 @@ Gives P (Ok x) = P x
 Gives P (Err refused) = Unit {0}
 
 -- behind something that is given
-pub gives_then : {A B : Type 0} (P : B → Type 0) (row : OrCode A) (rest : A → OrCode B) → ((x : A) → row ≡ Ok x → Gives P (rest x)) → Gives P (row >>= rest)
+pub gives_then : {A B : Type 0} (P : B → Type 0) (row : OrCode A) (rest : A → OrCode B) →
+    ((x : A) → row ≡ Ok x → Gives P (rest x)) → Gives P (row >>= rest)
 gives_then P (Ok x) rest each = each x refl
 gives_then P (Err refused) rest each = tt
 
 -- behind a condition
-pub gives_after : {A B : Type 0} (P : B → Type 0) (row : OrCode A) (rest : OrCode B) → Gives P rest → Gives P (row >> rest)
+pub gives_after : {A B : Type 0} (P : B → Type 0) (row : OrCode A) (rest : OrCode B) → Gives P rest →
+    Gives P (row >> rest)
 gives_after P (Ok x) rest given = given
 gives_after P (Err refused) rest given = tt
 
 -- behind a condition that didn't hold
-pub gives_refuse : {B : Type 0} (P : B → Type 0) (condition : Bool) (refusal : Code) (rest : OrCode B) → (condition ≡ false → Gives P rest) → Gives P (refuse condition refusal >> rest)
+pub gives_refuse : {B : Type 0} (P : B → Type 0) (condition : Bool) (refusal : Code) (rest : OrCode B) →
+    (condition ≡ false → Gives P rest) → Gives P (refuse condition refusal >> rest)
 gives_refuse P true refusal rest given = tt
 gives_refuse P false refusal rest given = given refl

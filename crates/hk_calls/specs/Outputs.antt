@@ -1,6 +1,7 @@
 -- What a row gives in the end, and what that does to the memory (this project's own, after the XRPL Hooks).
 -- So all bytes are read before any is written, the write length is tested last, and a refusal changes nothing.
-use Rattle.std.specs.Prelude.{ℕ, ◌-◌, ◌^◌, ◌==◌, ◌&&◌, nat_lt, ℤ, pos, List, ◌++◌, length, replicate, Ok, Err, if◌then◌else◌}
+use Rattle.std.specs.Prelude.{ℕ, ◌-◌, ◌^◌, ◌==◌, ◌&&◌, nat_lt, ℤ, pos, List, ◌++◌, length, replicate, Ok, Err}
+use Rattle.std.specs.Prelude.{if◌then◌else◌}
 use Rattle.std.specs.Int.{w64, from_be_bytes}
 use Rattle.wa_num.specs.Memory.{written}
 use Rattle.hk_calls.specs.declared.arguments.Pair.{Pair}

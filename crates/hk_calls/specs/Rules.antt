@@ -1,6 +1,7 @@
 -- The rules that all rows share (this project's own, after the XRPL Hooks). A row is its conditions, one after the
 -- other, and then what it gives.
-use Rattle.std.specs.Prelude.{ℕ, ◌-◌, ◌/◌, ◌%◌, ◌==◌, ◌&&◌, nat_lt, nat_le, Bool, List, ◌++◌, length, take, drop, replicate, Option, ok_or, Result, Ok, Err, if◌then◌else◌}
+use Rattle.std.specs.Prelude.{ℕ, ◌-◌, ◌/◌, ◌%◌, ◌==◌, ◌&&◌, nat_lt, nat_le, Bool, List, ◌++◌, length, take, drop}
+use Rattle.std.specs.Prelude.{replicate, Option, ok_or, Result, Ok, Err, if◌then◌else◌}
 use Rattle.hk_base.specs.declared.ids.Hash256.{Hash256}
 use Rattle.wa_num.specs.Memory.{fits}
 use Rattle.xo_fields.specs.declared.field.FieldId.{FieldId}

@@ -59,7 +59,8 @@ pub either : {A E P Q : Type 0} (r : Result A E) → OnOk r P → OnErr r Q → 
 either (Ok a) p q = inl p
 either (Err e) p q = inr q
 
-pub nothing : {A B : Type 0} (f : A → B) (o : Option A) (found : Option B) → option_map f o ≡ found → is_some o ≡ false →
+pub nothing : {A B : Type 0} (f : A → B) (o : Option A) (found : Option B) → option_map f o ≡ found →
+    is_some o ≡ false →
     found ≡ None
 nothing f None found e no_one = sym e
 nothing f (Some a) found e no_one = absurd (cc no_one)

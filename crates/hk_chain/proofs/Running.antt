@@ -1,5 +1,6 @@
 -- From a run over a checked hook to the turn's play.
-use Rattle.std.proofs.Common.{◌≡◌, ◌∙◌, ℕ, Bool, true, false, List, Option, Some, None, if◌then◌else◌, nat_lt, refl, sym, ap, ap₂, subst}
+use Rattle.std.proofs.Common.{◌≡◌, ◌∙◌, ℕ, Bool, true, false, List, Option, Some, None, if◌then◌else◌, nat_lt, refl}
+use Rattle.std.proofs.Common.{sym, ap, ap₂, subst}
 use Rattle.hk_bound.specs.Acceptance.{module_in}
 use Rattle.hk_bound.specs.Checks.{Held, Holds}
 use Rattle.hk_bound.specs.declared.fault.Export.{Export}

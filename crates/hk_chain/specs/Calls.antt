@@ -1,4 +1,5 @@
--- All calls of a hook: rows 3 to 26, which need no ledger, and rows 27 to 64 (this project's own, after the XRPL Hooks).
+-- All calls of a hook: rows 3 to 26, which need no ledger, and rows 27 to 64 (this project's own, after the XRPL
+-- Hooks).
 use Rattle.std.specs.Prelude.{ℕ, ◌≡◌, nat_lt, Bool, true, false, ℤ, List, length, if◌then◌else◌}
 use Rattle.wa_machine.specs.Machine.{HostMeaning}
 use Rattle.wa_machine.specs.Starts.{meaning_of}
@@ -23,7 +24,8 @@ hook_meaning =
     (λ h row arguments memory. (hook_answers h row arguments memory).after)
 
 length_by : (b : Bool) (h : HostState) (row : ℕ) (arguments memory : List ℕ) →
-    length (if b then unchanged h (pure_call row arguments memory) else answers h row arguments memory).memory ≡ length memory
+    length (if b then unchanged h (pure_call row arguments memory) else answers h row arguments memory).memory
+    ≡ length memory
 length_by true h row arguments memory = pure_keeps_length row arguments memory
 length_by false h row arguments memory = answers_length h row arguments memory
 

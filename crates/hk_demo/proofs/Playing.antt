@@ -1,11 +1,13 @@
 -- Lines that follow one another are played one after the other, and so are printed lines told.
-use Rattle.std.proofs.Common.{◌≡◌, ℕ, suc, ◌+◌, ◌<◌, List, [], ◌∷◌, ◌++◌, length, take, get_or, codes, sym, ap, ◌∙◌, refl, subst, arith}
+use Rattle.std.proofs.Common.{◌≡◌, ℕ, suc, ◌+◌, ◌<◌, List, [], ◌∷◌, ◌++◌, length, take, get_or, codes, sym, ap, ◌∙◌}
+use Rattle.std.proofs.Common.{refl, subst, arith}
 use Rattle.std.proofs.lemmas.List.{take_more}
 use Rattle.hk_lines.specs.declared.input_line.InputLine.{InputLine}
 use Rattle.hk_lines.specs.declared.input_line.InputLine.TheVariants.{End}
 use Rattle.hk_lines.specs.declared.output_line.OutputLine.{OutputLine}
 use Rattle.hk_demo.specs.declared.summary.Summary.{Summary}
-use Rattle.hk_demo.specs.DemoLines.{account_line, accounts, beginning, ledger_line, set_hook_line, opened_before, payment_line, payments}
+use Rattle.hk_demo.specs.DemoLines.{account_line, accounts, beginning, ledger_line, set_hook_line, opened_before}
+use Rattle.hk_demo.specs.DemoLines.{payment_line, payments}
 use Rattle.hk_demo.specs.Summary.{Played, begun, play, plays, told, told_all, summary}
 
 plays_joined : (p : Played) (xs ys : List InputLine) → plays p (xs ++ ys) ≡ plays (plays p xs) ys

@@ -1,5 +1,6 @@
 -- The bytes that the code puts together are the fields, spelled.
-use Rattle.std.proofs.Common.{◌≡◌, ℕ, ◌+◌, ◌≤◌, List, [], ◌∷◌, ◌++◌, length, replicate, refl, sym, ap, ◌∙◌, arith, append_assoc, append-nil, nat_le, true}
+use Rattle.std.proofs.Common.{◌≡◌, ℕ, ◌+◌, ◌≤◌, List, [], ◌∷◌, ◌++◌, length, replicate, refl, sym, ap, ◌∙◌, arith}
+use Rattle.std.proofs.Common.{append_assoc, append-nil, nat_le, true}
 use Rattle.std.proofs.lemmas.Bool.Decides.{nat_tests}
 use Rattle.std.specs.Int.{w32, w64, to_be_bytes}
 use Rattle.xo_fields.specs.Length.{prefix}
@@ -11,13 +12,16 @@ abbrev paid_by : List ℕ
 paid_by = 0x68 ∷ 0x40 ∷ 0 ∷ 0 ∷ 0 ∷ 0 ∷ 0 ∷ 0x03 ∷ 0xE8 ∷ 0x73 ∷ 0 ∷ 0x81 ∷ 0x14 ∷ []
 
 payment_spelled : (sequence drops from to : ℕ) → payment_blob sequence drops from to
-    ≡ (0x12 ∷ 0 ∷ 0 ∷ 0x24 ∷ []) ++ to_be_bytes w32 sequence ++ (0x61 ∷ []) ++ to_be_bytes w64 (4611686018427387904 + drops)
+    ≡ (0x12 ∷ 0 ∷ 0 ∷ 0x24 ∷ []) ++ to_be_bytes w32 sequence ++ (0x61 ∷ []) ++
+    to_be_bytes w64 (4611686018427387904 + drops)
     ++ paid_by ++ replicate 20 (from + 1) ++ (0x83 ∷ 0x14 ∷ []) ++ replicate 20 (to + 1)
 unfolding payment_blob
 payment_spelled sequence drops from to = refl
 
 pub payment_made : (sequence drops from to : ℕ) (made : List ℕ) →
-    made ≡ (0x12 ∷ 0 ∷ 0 ∷ 0x24 ∷ []) ++ to_be_bytes w32 sequence ++ (0x61 ∷ []) ++ to_be_bytes w64 (4611686018427387904 + drops)
+    made
+    ≡ (0x12 ∷ 0 ∷ 0 ∷ 0x24 ∷ []) ++ to_be_bytes w32 sequence ++ (0x61 ∷ []) ++
+    to_be_bytes w64 (4611686018427387904 + drops)
     ++ paid_by ++ replicate 20 (from + 1) ++ (0x83 ∷ 0x14 ∷ []) ++ replicate 20 (to + 1) →
     made ≡ payment_blob sequence drops from to
 payment_made sequence drops from to made is = is ∙ sym (payment_spelled sequence drops from to)

@@ -1,7 +1,8 @@
 //! The lines of the demo, each made where it is taken.
 ghost use Rattle.std.specs.Prelude.{◌≡◌, ◌≤◌, IfOk, OnOk};
 ghost use Rattle.hk_ledger.specs.Machine.{IsInRange};
-ghost use Rattle.hk_demo.specs.DemoLines.{account_line, accounts, beginning, ledger_line, opened_before, payment_line, payments, set_hook_line};
+ghost use Rattle.hk_demo.specs.DemoLines.{account_line, accounts, beginning, ledger_line, opened_before, payment_line};
+ghost use Rattle.hk_demo.specs.DemoLines.{payments, set_hook_line};
 ghost use Rattle.hk_demo.specs.Summary.{play, plays};
 
 use crate::blobs::{account, payment, set_hook};

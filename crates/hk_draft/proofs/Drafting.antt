@@ -17,20 +17,27 @@ use Rattle.hk_draft.specs.Laws.{WritesSo}
 
 listed_so : (q : StateKey) (keys : List Key) → writes.is_listed (as_key q) keys ≡ is_listed q (state_keys keys)
 listed_so q [] = refl
-listed_so q (key.State owner namespace k ∷ keys) = ap (λ b. is_key (as_key q) (key.State owner namespace k) || b) (listed_so q keys)
+listed_so q (key.State owner namespace k ∷ keys) =
+    ap (λ b. is_key (as_key q) (key.State owner namespace k) || b) (listed_so q keys)
 listed_so q (k ∷ keys) = listed_so q keys
 
 noted_so : (q : StateKey) (keys : List Key) → state_keys (note (as_key q) keys) ≡ noted q (state_keys keys)
 noted_so q keys =
     ap (λ b. state_keys (if b then keys else keys ++ as_key q ∷ [])) (listed_so q keys)
-    ∙ elim (is_listed q (state_keys keys)) as (λ b. state_keys (if b then keys else keys ++ as_key q ∷ []) ≡ (if b then state_keys keys else state_keys keys ++ q ∷ [])) [
+    ∙ elim (is_listed q (state_keys keys)) as (λ b.
+    state_keys (if b then keys else keys ++ as_key q ∷ [])
+    ≡ (if b then state_keys keys else state_keys keys ++ q ∷ [])) [
       | true ↦ refl
       | false ↦ filter_map-append as_state_key keys (as_key q ∷ [])
     ]
 
 -- the draft after a change at one State key
 abbrev changed : Draft → StateKey → Option Entry → Draft
-changed d q change = record { entries = write d.entries (as_key q) change; written = noted q d.written; emissions = d.emissions }
+changed d q change = record {
+  entries = write d.entries (as_key q) change;
+  written = noted q d.written;
+  emissions = d.emissions;
+}
 
 changed_so : (m : Entries) (w : Writes) (es : List Emission) (q : StateKey) (change : Option Entry) →
     draft_of m (written w (as_key q) change) es ≡ changed (draft_of m w es) q change

@@ -1,5 +1,6 @@
 -- Drafts that go on.
-use Rattle.std.proofs.Common.{◌≡◌, ℕ, ◌⊎◌, inl, inr, Bool, true, false, cond, ◌||◌, if◌then◌else◌, List, [], ◌∷◌, ◌++◌, append_assoc, append-nil, refl, sym, ap, subst, ◌∙◌, arith, Option, Some, None}
+use Rattle.std.proofs.Common.{◌≡◌, ℕ, ◌⊎◌, inl, inr, Bool, true, false, cond, ◌||◌, if◌then◌else◌, List, [], ◌∷◌, ◌++◌}
+use Rattle.std.proofs.Common.{append_assoc, append-nil, refl, sym, ap, subst, ◌∙◌, arith, Option, Some, None}
 use Rattle.std.proofs.lemmas.Bool.{or_left as or_first, or_parts}
 use Rattle.std.specs.List.{list_any}
 use Rattle.std.specs.FinMap.{get}
@@ -36,14 +37,17 @@ either_way false = refl
 listed_key : (p q : StateKey) (qs : List StateKey) → is_listed q qs ≡ true → (b : Bool) →
     is_key (as_key p) (as_key q) ≡ b → is_listed p qs ≡ (is_listed p qs || b)
 listed_key p q qs there true same =
-    let here : is_listed p qs ≡ true = ap (λ k. list_any (λ x. is_key k (as_key x)) qs) (exact (as_key p) (as_key q) same) ∙ there in
+    let here : is_listed p qs ≡ true =
+    ap (λ k. list_any (λ x. is_key k (as_key x)) qs) (exact (as_key p) (as_key q) same) ∙ there in
     here ∙ ap (λ b. b || true) (sym here)
 listed_key p q qs there false other = sym (either_way (is_listed p qs))
 
 pub listed-noted : (p q : StateKey) (qs : List StateKey) →
     is_listed p (noted q qs) ≡ (is_listed p qs || is_key (as_key p) (as_key q))
 listed-noted p q qs =
-    elim (is_listed q qs) as (λ b. is_listed q qs ≡ b → is_listed p (if b then qs else qs ++ q ∷ []) ≡ (is_listed p qs || is_key (as_key p) (as_key q))) [
+    elim (is_listed q qs) as (λ b.
+    is_listed q qs ≡ b →
+    is_listed p (if b then qs else qs ++ q ∷ []) ≡ (is_listed p qs || is_key (as_key p) (as_key q))) [
       | true ↦ λ there. listed_key p q qs there (is_key (as_key p) (as_key q)) refl
       | false ↦ λ other. list_any-append (λ x. is_key (as_key p) (as_key x)) qs (q ∷ [])
           ∙ ap (λ b. is_listed p qs || b) (either_way (is_key (as_key p) (as_key q)))
@@ -85,10 +89,12 @@ module _ (reads : List ℕ → Reading) (seq : ℕ) (G : StateKey → Type 0) wh
         (is_listed q b.written ≡ true) ⊎ (G q × HoldsState (get c.entries (as_key q))) →
         (is_listed q a.written ≡ true) ⊎ (G q × HoldsState (get c.entries (as_key q)))
     grounds_before q (inr later) = inr later
-    grounds_before q (inl listed) = elim (one.grounds q listed) as (λ _. (is_listed q a.written ≡ true) ⊎ (G q × HoldsState (get c.entries (as_key q)))) [
-      | inl h ↦ inl h
-      | inr h ↦ inr (h.0, two.held q h.1)
-    ]
+    grounds_before q (inl listed) =
+        elim (one.grounds q listed)
+        as (λ _. (is_listed q a.written ≡ true) ⊎ (G q × HoldsState (get c.entries (as_key q)))) [
+          | inl h ↦ inl h
+          | inr h ↦ inr (h.0, two.held q h.1)
+        ]
 
     pub extends_further : Extends reads seq G a c
     extends_further = record {
@@ -105,14 +111,18 @@ module _ (reads : List ℕ → Reading) (seq : ℕ) (G : StateKey → Type 0) wh
 
   -- a change at one State key
   module _ (a : Draft) (q : StateKey) (change : Option Entry) (holds : HoldsState change) (grounds : G q) where
-    read_at : (p : StateKey) → get (write a.entries (as_key q) change) (as_key p) ≡ cond (is_key (as_key p) (as_key q)) change (get a.entries (as_key p))
+    read_at : (p : StateKey) →
+        get (write a.entries (as_key q) change) (as_key p)
+        ≡ cond (is_key (as_key p) (as_key q)) change (get a.entries (as_key p))
     read_at p = get-write a.entries (as_key q) change (as_key p)
 
-    held_at : (p : StateKey) (b : Bool) → HoldsState (get a.entries (as_key p)) → HoldsState (cond b change (get a.entries (as_key p)))
+    held_at : (p : StateKey) (b : Bool) → HoldsState (get a.entries (as_key p)) →
+        HoldsState (cond b change (get a.entries (as_key p)))
     held_at p true h = holds
     held_at p false h = h
 
-    grounds_at : (p : StateKey) → is_key (as_key p) (as_key q) ≡ true → G p × HoldsState (get (write a.entries (as_key q) change) (as_key p))
+    grounds_at : (p : StateKey) → is_key (as_key p) (as_key q) ≡ true →
+        G p × HoldsState (get (write a.entries (as_key q) change) (as_key p))
     grounds_at p same = (
       subst G (sym (same_key p q same)) grounds,
       subst HoldsState (sym (read_at p ∙ ap (λ b. cond b change (get a.entries (as_key p))) same)) holds,
@@ -123,12 +133,16 @@ module _ (reads : List ℕ → Reading) (seq : ℕ) (G : StateKey → Type 0) wh
     grounds_of p (inl listed) = inl listed
     grounds_of p (inr same) = inr (grounds_at p same)
 
-    pub extends_change : Extends reads seq G a (record { entries = write a.entries (as_key q) change; written = noted q a.written; emissions = a.emissions })
+    pub extends_change : Extends reads seq G a
+        (record { entries = write a.entries (as_key q) change; written = noted q a.written; emissions = a.emissions })
     extends_change = record {
       unlisted = λ p h. read_at p ∙ ap (λ b. cond b change (get a.entries (as_key p)))
           (or_parts (is_listed p a.written) (is_key (as_key p) (as_key q)) (sym (listed-noted p q a.written) ∙ h)).1;
       listed = λ p h. listed-noted p q a.written ∙ or_first (is_listed p a.written) (is_key (as_key p) (as_key q)) h;
-      grounds = λ p h. grounds_of p (first_or_second (is_listed p a.written) (is_key (as_key p) (as_key q)) (sym (listed-noted p q a.written) ∙ h));
+      grounds =
+          λ p h.
+          grounds_of p (first_or_second (is_listed p a.written) (is_key (as_key p) (as_key q))
+          (sym (listed-noted p q a.written) ∙ h));
       held = λ p h. subst HoldsState (sym (read_at p)) (held_at p (is_key (as_key p) (as_key q)) h);
       queue = λ n. get-write a.entries (as_key q) change (key.Emitted n);
       more = [];
@@ -160,7 +174,8 @@ module _ (reads : List ℕ → Reading) (seq : ℕ) (G : StateKey → Type 0) wh
     sum = refl;
   }
 
-module _ (reads : List ℕ → Reading) (seq : ℕ) (G H : StateKey → Type 0) (weaker : (q : StateKey) → G q → H q) (a b : Draft) (one : Extends reads seq G a b) where
+module _ (reads : List ℕ → Reading) (seq : ℕ) (G H : StateKey → Type 0) (weaker : (q : StateKey) → G q → H q)
+    (a b : Draft) (one : Extends reads seq G a b) where
   weaker_at : (q : StateKey) → (is_listed q a.written ≡ true) ⊎ (G q × HoldsState (get b.entries (as_key q))) →
       (is_listed q a.written ≡ true) ⊎ (H q × HoldsState (get b.entries (as_key q)))
   weaker_at q (inl listed) = inl listed

@@ -1,5 +1,6 @@
 -- What the test that asks for a grant lets through.
-use Rattle.std.proofs.Common.{◌≡◌, ℕ, ◌⊎◌, inl, inr, T, Bool, true, false, cond, ◌&&◌, List, [], ◌∷◌, refl, sym, ap, ◌∙◌, Option, Some, None}
+use Rattle.std.proofs.Common.{◌≡◌, ℕ, ◌⊎◌, inl, inr, T, Bool, true, false, cond, ◌&&◌, List, [], ◌∷◌, refl, sym, ap}
+use Rattle.std.proofs.Common.{◌∙◌, Option, Some, None}
 use Rattle.std.specs.List.{list_any}
 use Rattle.std.specs.Str.{bytes_eq}
 use Rattle.std.specs.Ordering.{is_lt, is_eq}
@@ -29,7 +30,8 @@ same_account a b h = ap (λ bytes. record { 0 = bytes }) ((bytes_eq-Decides a.0 
 same_hash : (a b : Hash256) → bytes_eq a.0 b.0 ≡ true → a ≡ b
 same_hash a b h = ap (λ bytes. record { 0 = bytes }) ((bytes_eq-Decides a.0 b.0).0 h)
 
-for_means : (actor : AccountId) (account : Option AccountId) → is_for actor account ≡ true → (account ≡ None) ⊎ (account ≡ Some actor)
+for_means : (actor : AccountId) (account : Option AccountId) → is_for actor account ≡ true →
+    (account ≡ None) ⊎ (account ≡ Some actor)
 for_means actor None h = inl refl
 for_means actor (Some account) h = inr (ap (λ id. Some id) (same_account account actor h))
 
@@ -37,7 +39,8 @@ grant_means : (hash : Hash256) (actor : AccountId) (grants : List Grant) →
     list_any (is_granted hash actor) grants ≡ true → SomeOf (Grants hash actor) grants
 grant_means hash actor [] h = cc
 grant_means hash actor (grant ∷ grants) h =
-    elim (or_cases (is_granted hash actor grant) (list_any (is_granted hash actor) grants) h) as (λ _. SomeOf (Grants hash actor) (grant ∷ grants)) [
+    elim (or_cases (is_granted hash actor grant) (list_any (is_granted hash actor) grants) h)
+    as (λ _. SomeOf (Grants hash actor) (grant ∷ grants)) [
       | inl here ↦
           let parts = and_parts (bytes_eq grant.hash.0 hash.0) (is_for actor grant.account) here in
           inl (record { hash_is = same_hash grant.hash hash parts.0; account = for_means actor grant.account parts.1 })
@@ -61,19 +64,29 @@ is_other : (x : Key × Entry) (xs : List (Key × Entry)) (k : Key) (e : Entry) �
     find key_cmp k xs ≡ Some e → (b : Bool) → is_key k x.0 ≡ b → b ≡ false
 is_other x xs k e low there false is = refl
 is_other x xs k e low there true is =
-    let differ : None ≡ Some e = sym (absent x.0 xs low) ∙ ap (λ q. find key_cmp q xs) (sym (exact k x.0 is)) ∙ there in cc
+    let differ : None ≡ Some e = sym (absent x.0 xs low) ∙ ap (λ q. find key_cmp q xs) (sym (exact k x.0 is)) ∙ there in
+    cc
 
-passing : (test : Key × Entry → Bool) (es : List (Key × Entry)) → T (is_sorted key_cmp es) → list_any test es ≡ true → Passes test es
+passing : (test : Key × Entry → Bool) (es : List (Key × Entry)) → T (is_sorted key_cmp es) → list_any test es ≡ true →
+    Passes test es
 passing test [] sorted h = cc
 passing test (x ∷ xs) sorted h =
     elim (or_cases (test x) (list_any test xs) h) as (λ _. Passes test (x ∷ xs)) [
-      | inl here ↦ record { at = x.0; e = x.1; there = ap (λ b. cond b (Some x.1) (find key_cmp x.0 xs)) (itself x.0); passes = here }
+      | inl here ↦ record {
+        at = x.0;
+        e = x.1;
+        there = ap (λ b. cond b (Some x.1) (find key_cmp x.0 xs)) (itself x.0);
+        passes = here;
+      }
       | inr later ↦
           let p = passing test xs (second (below x.0 xs) (is_sorted key_cmp xs) sorted) later in
           record {
             at = p.at;
             e = p.e;
-            there = ap (λ b. cond b (Some x.1) (find key_cmp p.at xs)) (is_other x xs p.at p.e (first (below x.0 xs) (is_sorted key_cmp xs) sorted) p.there (is_key p.at x.0) refl) ∙ p.there;
+            there =
+                ap (λ b. cond b (Some x.1) (find key_cmp p.at xs)) (is_other x xs p.at p.e
+                (first (below x.0 xs) (is_sorted key_cmp xs) sorted) p.there (is_key p.at x.0) refl)
+                ∙ p.there;
             passes = p.passes;
           }
     ]
@@ -97,7 +110,8 @@ module _ (m : Entries) (hash : Hash256) (actor owner : AccountId) (namespace : H
   granted_at (key.Install id position) e there beside has = cc
   granted_at k e there beside has = cc
 
-  granted : Passes (λ e. is_own (first_install owner) e.0 && has_grant hash actor namespace e.1) (entries m) → IsGranted m hash actor owner namespace
+  granted : Passes (λ e. is_own (first_install owner) e.0 && has_grant hash actor namespace e.1) (entries m) →
+      IsGranted m hash actor owner namespace
   granted p =
       let parts = and_parts (is_own (first_install owner) p.at) (has_grant hash actor namespace p.e) p.passes in
       let own = and_parts (is_from (first_install owner) p.at) (are_beside (first_install owner) p.at) parts.0 in
@@ -105,7 +119,9 @@ module _ (m : Entries) (hash : Hash256) (actor owner : AccountId) (namespace : H
 
   pub may_write_means : may_write m hash actor owner namespace ≡ true → MayWrite m hash actor owner namespace
   may_write_means h =
-      elim (or_cases (bytes_eq owner.0 actor.0) (list_any (λ e. is_own (first_install owner) e.0 && has_grant hash actor namespace e.1) (entries m)) h) as (λ _. MayWrite m hash actor owner namespace) [
+      elim (or_cases (bytes_eq owner.0 actor.0)
+      (list_any (λ e. is_own (first_install owner) e.0 && has_grant hash actor namespace e.1) (entries m)) h)
+      as (λ _. MayWrite m hash actor owner namespace) [
         | inl own ↦ inl (same_account owner actor own)
         | inr some ↦ inr (granted (passing _ (entries m) (entries_sorted m) some))
       ]

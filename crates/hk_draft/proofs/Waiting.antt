@@ -16,21 +16,26 @@ use Rattle.hk_emit.proofs.Judging.{accepted_emission}
 use Rattle.hk_draft.specs.Reads.{reads_emitted, of_emitted_fields}
 use Rattle.hk_draft.specs.Laws.{AcceptedEmits}
 
-reads_so : (blob : List ℕ) (fields : List Item) (t : Transaction) → length blob ≤ longest → fields_of blob ≡ Some fields →
+reads_so : (blob : List ℕ) (fields : List Item) (t : Transaction) → length blob ≤ longest →
+    fields_of blob ≡ Some fields →
     transaction_of true fields blob ≡ Some t → reads_emitted blob ≡ readings.Transaction t
 unfolding reads_emitted
 reads_so blob fields t short found is =
-    ap (λ b. if b then readings.TooLong else of_emitted_fields blob (fields_of blob)) (let fits : nat_lt longest (length blob) ≡ false = grind (arith, nat_tests) in fits)
+    ap (λ b. if b then readings.TooLong else of_emitted_fields blob (fields_of blob))
+    (let fits : nat_lt longest (length blob) ≡ false = grind (arith, nat_tests) in fits)
     ∙ ap (of_emitted_fields blob) found ∙ ap of_transaction is
 
 pub accepted_waits : OneHeader → AcceptedEmits
 accepted_waits one blob context nonces e some small light h =
     let r : IsEmission blob context nonces e = accepted_emission one blob context nonces e h in
-    let found : transaction_of true r.fields blob ≡ Some e.transaction = (transaction_found true r.fields blob).complete e.transaction r.is in
+    let found : transaction_of true r.fields blob ≡ Some e.transaction =
+    (transaction_found true r.fields blob).complete e.transaction r.is in
     record {
       well = record {
         transaction = e.transaction;
-        reads_so = ap reads_emitted r.is.blob ∙ reads_so blob r.fields e.transaction r.short ((fields_found blob).complete r.fields r.object) found;
+        reads_so =
+            ap reads_emitted r.is.blob
+            ∙ reads_so blob r.fields e.transaction r.short ((fields_found blob).complete r.fields r.object) found;
         other = r.other;
         emitted = omega (arith, r.generation small, some);
         generation = r.few;

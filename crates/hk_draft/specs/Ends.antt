@@ -30,7 +30,8 @@ IsOneCallback [] = Unit {0}
 IsOneCallback (line ∷ []) = IsCallback line
 IsOneCallback (line ∷ next ∷ lines) = ⊥
 
-pub record CalledBack (reads : List ℕ → Reading) (seq : ℕ) (before : Entries) (a b : Draft) (records : List OutputLine) :
+pub record CalledBack (reads : List ℕ → Reading) (seq : ℕ) (before : Entries) (a b : Draft)
+    (records : List OutputLine) :
     Type 0 where
   pub extends : Extends reads seq (IsWriter before (CallbackRan records)) a b
   pub others : KeepsOthers a.entries b.entries

@@ -33,7 +33,8 @@ WritesSo = (m : Entries) (w : Writes) (es : List Emission) (q : StateKey) (bytes
 -- what is accepted as an emission may wait in the queue
 abbrev pub AcceptedEmits : Type 0
 AcceptedEmits = (blob : List ℕ) (context : EmitContext) (nonces : List Hash256) (e : Emission) →
-    1 ≤ context.generation → context.generation < 2 ^ 32 → context.burden < 2 ^ 63 → accepted blob context nonces ≡ Some e →
+    1 ≤ context.generation → context.generation < 2 ^ 32 → context.burden < 2 ^ 63 →
+    accepted blob context nonces ≡ Some e →
     Emits reads_emitted context.seq e
 
 -- under the grounds of one hook a draft goes on from itself, two steps are one, and it goes on by a write that the

@@ -1,5 +1,8 @@
--- Which blobs are emissions, and why others are not (this project's own, after the Hooks documentation, "Emitted Transactions").
-use Rattle.std.specs.Prelude.{◌≡◌, ℕ, ◌+◌, ◌<◌, ◌≤◌, ◌⊎◌, ◌==◌, ◌&&◌, not, nat_lt, nat_le, bytes_eq, Bool, true, false, List, [], ◌∷◌, length, replicate, find, Option, Some, None, is_some, ok_or, Result, Ok, Err, if◌then◌else◌}
+-- Which blobs are emissions, and why others are not (this project's own, after the Hooks documentation, "Emitted
+-- Transactions").
+use Rattle.std.specs.Prelude.{◌≡◌, ℕ, ◌+◌, ◌<◌, ◌≤◌, ◌⊎◌, ◌==◌, ◌&&◌, not, nat_lt, nat_le, bytes_eq, Bool, true, false}
+use Rattle.std.specs.Prelude.{List, [], ◌∷◌, length, replicate, find, Option, Some, None, is_some, ok_or, Result, Ok}
+use Rattle.std.specs.Prelude.{Err, if◌then◌else◌}
 use Rattle.std.specs.Option.{option_map_or}
 use Rattle.hk_base.specs.declared.ids.AccountId.{AccountId}
 use Rattle.hk_base.specs.declared.ids.Hash256.{Hash256}
@@ -73,7 +76,14 @@ emission_of context fields nonce t = do
   last ← ok_or t.last faults.Last
   refuse (not (is_last first last)) faults.Last
   refuse (nat_lt 10 t.generation) faults.Generation
-  Ok (record { transaction = t; nonce = nonce; hash = context.hash; first = first; last = last; callback = callback_of context })
+  Ok (record {
+    transaction = t;
+    nonce = nonce;
+    hash = context.hash;
+    first = first;
+    last = last;
+    callback = callback_of context;
+  })
 
 -- how an object's fields are judged that are this emitted transaction, or none
 abbrev pub judged : EmitContext → List Hash256 → List Item → Option Transaction → OrFault Emission
@@ -93,9 +103,13 @@ abbrev pub JudgesFields : List Item → List ℕ → EmitContext → List Hash25
 JudgesFields fields blob context nonces (Err faults.NoMemory) = Unit {0}
 JudgesFields fields blob context nonces (Err faults.TooLong) = ⊥
 JudgesFields fields blob context nonces (Err faults.Unparsed) = ⊥
-JudgesFields fields blob context nonces (Err faults.SequenceNotZero) = (transaction : Option Transaction) → judged context nonces fields transaction ≡ Err faults.SequenceNotZero
-JudgesFields fields blob context nonces (Err faults.Details) = (transaction : Option Transaction) → judged context nonces fields transaction ≡ Err faults.Details
-JudgesFields fields blob context nonces answer = (transaction : Option Transaction) × IsReadAs fields blob transaction × (judged context nonces fields transaction ≡ answer)
+JudgesFields fields blob context nonces (Err faults.SequenceNotZero) =
+    (transaction : Option Transaction) → judged context nonces fields transaction ≡ Err faults.SequenceNotZero
+JudgesFields fields blob context nonces (Err faults.Details) =
+    (transaction : Option Transaction) → judged context nonces fields transaction ≡ Err faults.Details
+JudgesFields fields blob context nonces answer =
+    (transaction : Option Transaction) × IsReadAs fields blob transaction
+    × (judged context nonces fields transaction ≡ answer)
 
 -- a fault of a transaction that is read
 abbrev pub IsLater : EmitFault → Type 0
@@ -112,7 +126,8 @@ abbrev pub IsUnread : List ℕ → EmitFault → Type 0
 IsUnread blob fault = (fault ≡ faults.NoMemory) ⊎ ((fault ≡ faults.Unparsed) × (HasFields blob → ⊥))
 
 -- a blob's object is judged so
-pub record IsJudged (blob : List ℕ) (context : EmitContext) (nonces : List Hash256) (answer : OrFault Emission) : Type 0 where
+pub record IsJudged (blob : List ℕ) (context : EmitContext) (nonces : List Hash256)
+    (answer : OrFault Emission) : Type 0 where
   pub short : length blob ≤ longest
   pub fields : List Item
   pub object : IsObject fields blob

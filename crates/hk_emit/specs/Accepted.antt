@@ -1,5 +1,6 @@
 -- The emission that a blob is, as a function.
-use Rattle.std.specs.Prelude.{◌≡◌, ◌≢◌, ℕ, ◌+◌, ◌<◌, ◌≤◌, ◌^◌, nat_lt, true, List, length, Option, Some, None, Ok, Err, if◌then◌else◌}
+use Rattle.std.specs.Prelude.{◌≡◌, ◌≢◌, ℕ, ◌+◌, ◌<◌, ◌≤◌, ◌^◌, nat_lt, true, List, length, Option, Some, None, Ok, Err}
+use Rattle.std.specs.Prelude.{if◌then◌else◌}
 use Rattle.std.specs.Option.{option_and_then}
 use Rattle.std.specs.Result.{result_ok}
 use Rattle.hk_base.specs.declared.ids.Hash256.{Hash256}
@@ -19,7 +20,9 @@ abbrev pub accepted_fields : List ℕ → EmitContext → List Hash256 → List 
 accepted_fields blob context nonces fields = result_ok (judged context nonces fields (transaction_of true fields blob))
 
 unfoldable pub accepted : List ℕ → EmitContext → List Hash256 → Option Emission
-accepted blob context nonces = if nat_lt longest (length blob) then None else option_and_then (accepted_fields blob context nonces) (fields_of blob)
+accepted blob context nonces =
+    if nat_lt longest (length blob) then None
+    else option_and_then (accepted_fields blob context nonces) (fields_of blob)
 
 -- a call answers the emission where there is one, and a fault where there is none
 abbrev pub Accepts : List ℕ → EmitContext → List Hash256 → OrFault Emission → Type 0
@@ -47,4 +50,6 @@ pub record IsEmission (blob : List ℕ) (context : EmitContext) (nonces : List H
   pub burden : context.burden < 2 ^ 64 → e.transaction.burden ≡ context.burden
 
 abbrev pub AcceptedReads : Type 0
-AcceptedReads = (blob : List ℕ) (context : EmitContext) (nonces : List Hash256) (e : Emission) → accepted blob context nonces ≡ Some e → IsEmission blob context nonces e
+AcceptedReads =
+    (blob : List ℕ) (context : EmitContext) (nonces : List Hash256) (e : Emission) →
+    accepted blob context nonces ≡ Some e → IsEmission blob context nonces e

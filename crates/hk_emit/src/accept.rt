@@ -5,7 +5,8 @@ ghost use Rattle.xo_list.specs.Span.{items};
 ghost use Rattle.xo_list.specs.Value.{IsObject, HasFields};
 ghost use Rattle.hk_reading.specs.Readings.{longest};
 ghost use Rattle.hk_emit.specs.declared.fault.EmitFault.{EmitFault};
-ghost use Rattle.hk_emit.specs.Accept.{has_number, is_last, callback_of, emission_of, IsLater, IsUnread, JudgesFields, Judges};
+ghost use Rattle.hk_emit.specs.Accept.{has_number, is_last, callback_of, emission_of, IsLater, IsUnread, JudgesFields};
+ghost use Rattle.hk_emit.specs.Accept.{Judges};
 ghost use Rattle.hk_emit.specs.Accepted.{Accepts};
 
 use crate::context::EmitContext;

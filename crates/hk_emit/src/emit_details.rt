@@ -11,7 +11,8 @@ use hk_base::Hash256;
 use xo_fields::FieldId;
 use xo_object::Object;
 
-/// The field EmitDetails with header and end mark, and how many of the bytes it takes: 138 with a callback, else 116. Takes no memory.
+/// The field EmitDetails with header and end mark, and how many of the bytes it takes: 138 with a callback, else 116.
+/// Takes no memory.
 pub fn details(context: &EmitContext, nonce: &Hash256) -> ([u8; LONGEST_DETAILS], usize)
     ensures bytes { take result.1 result.0 ≡ details context.now nonce.now }
     ensures size { result.1 ≡ details_size context.now }

@@ -1,5 +1,6 @@
 -- A transaction that is handed in.
-use Rattle.std.proofs.Common.{◌≡◌, ℕ, ◌⊎◌, inl, inr, false, List, [], append-nil, refl, sym, ap, subst, ◌∙◌, arith, Option, Some, None}
+use Rattle.std.proofs.Common.{◌≡◌, ℕ, ◌⊎◌, inl, inr, false, List, [], append-nil, refl, sym, ap, subst, ◌∙◌, arith}
+use Rattle.std.proofs.Common.{Option, Some, None}
 use Rattle.std.specs.FinMap.{get}
 use Rattle.hk_base.specs.declared.ids.AccountId.{AccountId}
 use Rattle.hk_lines.specs.declared.output_line.OutputLine.{OutputLine}
@@ -36,7 +37,8 @@ queue_aside n None = refl
 queue_aside n (Some account) = refl
 
 -- a callback that leaves nothing, or none
-pub dropped_call : (reads : List ℕ → Reading) (seq : ℕ) (before : Entries) (s : Draft) (records : List OutputLine) → Each IsCallback records →
+pub dropped_call : (reads : List ℕ → Reading) (seq : ℕ) (before : Entries) (s : Draft) (records : List OutputLine) →
+    Each IsCallback records →
     Called reads seq before s (relisted s) [] records
 dropped_call reads seq before s records calls = record {
   extends = extends_itself reads seq (IsWriter before (CallbackRan records)) (relisted s);
@@ -61,27 +63,40 @@ module _ (e : Engine) (ledger : LedgerValue) (reading : Reading) (good : IsGood 
     good = λ n x at. good n x (sym (takes.same (key.Emitted n) (queue_aside n (sender_of reading))) ∙ at);
   }
 
-  ran : Ran e.reads_emitted ledger.header.seq ledger.entries takes.base p.records (DeletedBy reading) p.draft (Some p.result)
+  ran : Ran e.reads_emitted ledger.header.seq ledger.entries takes.base p.records (DeletedBy reading) p.draft
+      (Some p.result)
   ran = record { extends = takes.extends; hooks = takes.hooks; success = takes.success }
 
-  applied_holds : Holds e.reads_emitted ledger (applied_by ledger p) (λ q. (Some p.result ≡ Some Success) × DeletedBy reading q) (sender_of reading)
+  applied_holds : Holds e.reads_emitted ledger (applied_by ledger p)
+      (λ q. (Some p.result ≡ Some Success) × DeletedBy reading q) (sender_of reading)
   applied_holds =
-      subst (λ lines. Holds e.reads_emitted ledger (record { ledger = entered ledger p.draft p.fee; result = Some p.result; fee = p.fee; lines = lines }) (λ q. (Some p.result ≡ Some Success) × DeletedBy reading q) (sender_of reading))
+      subst (λ lines.
+      Holds e.reads_emitted ledger
+      (record { ledger = entered ledger p.draft p.fee; result = Some p.result; fee = p.fee; lines = lines })
+      (λ q. (Some p.result ≡ Some Success) × DeletedBy reading q) (sender_of reading))
       (append-nil (kept_lines ledger.next p.draft p.records))
-      (event_happens e.reads_emitted ledger takes.base [] (sender_of reading) p.fee (Some p.result) p.records (DeletedBy reading) p.draft (relisted p.draft) [] [] starts ran
+      (event_happens e.reads_emitted ledger takes.base [] (sender_of reading) p.fee (Some p.result) p.records
+      (DeletedBy reading) p.draft (relisted p.draft) [] [] starts ran
       (dropped_call e.reads_emitted ledger.header.seq ledger.entries p.draft [] tt)).holds
 
 -- with less that may have been deleted
-pub deleted_so : (reads : List ℕ → Reading) (before : LedgerValue) (event : Event) (D F : StateKey → Type 0) (sender : Option AccountId) →
+pub deleted_so : (reads : List ℕ → Reading) (before : LedgerValue) (event : Event) (D F : StateKey → Type 0)
+    (sender : Option AccountId) →
     ((q : StateKey) → D q → F q) → Holds reads before event D sender → Holds reads before event F sender
 deleted_so reads before event D F sender more holds = record {
-  confined = λ q differ. elim (holds.confined q differ) as (λ _. IsWriter before.entries (HasKept event) q ⊎ F q) [ inl w ↦ inl w | inr h ↦ inr (more q h) ];
+  confined =
+      λ q differ.
+      elim (holds.confined q differ) as (λ _. IsWriter before.entries (HasKept event) q ⊎ F q) [
+        | inl w ↦ inl w
+        | inr h ↦ inr (more q h)
+      ];
   whole = holds.whole;
   good = holds.good;
   sum = holds.sum;
 }
 
-deletes_so : (reading : Reading) (event : Event) (q : StateKey) → (event.result ≡ Some Success) × DeletedBy reading q → Deletes reading event q
+deletes_so : (reading : Reading) (event : Event) (q : StateKey) → (event.result ≡ Some Success) × DeletedBy reading q →
+    Deletes reading event q
 deletes_so readings.TooLong event q h = absurd h.1
 deletes_so readings.Unparsed event q h = absurd h.1
 deletes_so readings.Malformed event q h = absurd h.1
@@ -89,7 +104,9 @@ deletes_so (readings.Transaction t) event q h = h
 
 pub applied_law : AppliedHolds
 applied_law e ledger verdict blob lawful good =
-    deleted_so e.reads_emitted ledger (applied e ledger verdict blob) (λ q. ((applied e ledger verdict blob).result ≡ Some Success) × DeletedBy (e.reads blob) q) (Deletes (e.reads blob) (applied e ledger verdict blob)) (sender_of (e.reads blob))
+    deleted_so e.reads_emitted ledger (applied e ledger verdict blob)
+    (λ q. ((applied e ledger verdict blob).result ≡ Some Success) × DeletedBy (e.reads blob) q)
+    (Deletes (e.reads blob) (applied e ledger verdict blob)) (sender_of (e.reads blob))
     (deletes_so (e.reads blob) (applied e ledger verdict blob))
     (applied_holds e ledger (e.reads blob) good (transaction e ledger.entries ledger (handed verdict) (e.reads blob))
     (transaction_takes e lawful ledger.entries ledger (handed verdict) (e.reads blob)))

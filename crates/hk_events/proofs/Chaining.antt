@@ -9,7 +9,8 @@ use Rattle.hk_draft.specs.Draft.{Draft}
 use Rattle.hk_draft.specs.Ends.{ChainEnd, kept, rejected, Chained, ChainFits}
 use Rattle.hk_draft.specs.Extends.{Extends}
 use Rattle.hk_draft.specs.Writers.{IsWriter, HookRan, IsHook, IsHookOf}
-use Rattle.hk_draft.proofs.Extended.{each-append, extends_itself, extends_further, extends_weaker, others_itself, others_further}
+use Rattle.hk_draft.proofs.Extended.{each-append, extends_itself, extends_further, extends_weaker, others_itself}
+use Rattle.hk_draft.proofs.Extended.{others_further}
 use Rattle.hk_draft.proofs.Somewhere.{some-front, some-behind}
 use Rattle.hk_events.specs.Complete.{AreSized, SizesFit}
 use Rattle.hk_events.specs.Chains.{behind, onward, chains}
@@ -28,17 +29,21 @@ writer_by before Ran More more q w = record {
 }
 
 module _ (reads : List ℕ → Reading) (seq : ℕ) (before : Entries) where
-  pub more_runs : (a b : Draft) (records more : List OutputLine) → Extends reads seq (IsWriter before (HookRan records)) a b →
+  pub more_runs : (a b : Draft) (records more : List OutputLine) →
+      Extends reads seq (IsWriter before (HookRan records)) a b →
       Extends reads seq (IsWriter before (HookRan (records ++ more))) a b
   more_runs a b records more one =
       extends_weaker reads seq (IsWriter before (HookRan records)) (IsWriter before (HookRan (records ++ more)))
-      (writer_by before (HookRan records) (HookRan (records ++ more)) (λ account position ran. some-front (IsHookOf account position) records more ran)) a b one
+      (writer_by before (HookRan records) (HookRan (records ++ more))
+      (λ account position ran. some-front (IsHookOf account position) records more ran)) a b one
 
-  earlier_runs : (a b : Draft) (records more : List OutputLine) → Extends reads seq (IsWriter before (HookRan more)) a b →
+  earlier_runs : (a b : Draft) (records more : List OutputLine) →
+      Extends reads seq (IsWriter before (HookRan more)) a b →
       Extends reads seq (IsWriter before (HookRan (records ++ more))) a b
   earlier_runs a b records more one =
       extends_weaker reads seq (IsWriter before (HookRan more)) (IsWriter before (HookRan (records ++ more)))
-      (writer_by before (HookRan more) (HookRan (records ++ more)) (λ account position ran. some-behind (IsHookOf account position) records more ran)) a b one
+      (writer_by before (HookRan more) (HookRan (records ++ more))
+      (λ account position ran. some-behind (IsHookOf account position) records more ran)) a b one
 
   behind_fits : (a b : Draft) (records : List OutputLine) → Chained reads seq before a b records → (x : ChainEnd) →
       ChainFits reads seq before b x → ChainFits reads seq before a (behind records x)
@@ -55,24 +60,30 @@ module _ (reads : List ℕ → Reading) (seq : ℕ) (before : Entries) where
   onward_fits a (kept b records) later one two = behind_fits a b records one (later b) (two b)
   onward_fits a (rejected records) later one two = one
 
-  module _ (chain : AccountId → Draft → ChainEnd) (fits : (account : AccountId) (a : Draft) → ChainFits reads seq before a (chain account a)) where
+  module _ (chain : AccountId → Draft → ChainEnd)
+      (fits : (account : AccountId) (a : Draft) → ChainFits reads seq before a (chain account a)) where
     pub chains_fit : (accounts : List AccountId) (a : Draft) → ChainFits reads seq before a (chains chain accounts a)
     chains_fit [] a = record {
       extends = extends_itself reads seq (IsWriter before (HookRan [])) a;
       others = others_itself a.entries;
       hooks = tt;
     }
-    chains_fit (account ∷ accounts) a = onward_fits a (chain account a) (chains chain accounts) (fits account a) (chains_fit accounts)
+    chains_fit (account ∷ accounts) a =
+        onward_fits a (chain account a) (chains chain accounts) (fits account a) (chains_fit accounts)
 
-behind_sized : (a b : Draft) (records : List OutputLine) → (AreSized a.entries → AreSized b.entries) → (x : ChainEnd) → SizesFit b x → SizesFit a (behind records x)
+behind_sized : (a b : Draft) (records : List OutputLine) → (AreSized a.entries → AreSized b.entries) → (x : ChainEnd) →
+    SizesFit b x → SizesFit a (behind records x)
 behind_sized a b records one (kept c more) two = λ sized. two (one sized)
 behind_sized a b records one (rejected more) two = tt
 
-onward_sized : (a : Draft) (x : ChainEnd) (later : Draft → ChainEnd) → SizesFit a x → ((b : Draft) → SizesFit b (later b)) → SizesFit a (onward x later)
+onward_sized : (a : Draft) (x : ChainEnd) (later : Draft → ChainEnd) → SizesFit a x →
+    ((b : Draft) → SizesFit b (later b)) → SizesFit a (onward x later)
 onward_sized a (kept b records) later one two = behind_sized a b records one (later b) (two b)
 onward_sized a (rejected records) later one two = tt
 
-module _ (chain : AccountId → Draft → ChainEnd) (fits : (account : AccountId) (a : Draft) → SizesFit a (chain account a)) where
+module _ (chain : AccountId → Draft → ChainEnd)
+    (fits : (account : AccountId) (a : Draft) → SizesFit a (chain account a)) where
   pub chains_sized : (accounts : List AccountId) (a : Draft) → SizesFit a (chains chain accounts a)
   chains_sized [] a = λ sized. sized
-  chains_sized (account ∷ accounts) a = onward_sized a (chain account a) (chains chain accounts) (fits account a) (chains_sized accounts)
+  chains_sized (account ∷ accounts) a =
+      onward_sized a (chain account a) (chains chain accounts) (fits account a) (chains_sized accounts)

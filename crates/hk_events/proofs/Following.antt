@@ -1,5 +1,7 @@
--- Entries that follow on others: what is new of hooks and their state is as it has to be, and accounts and Definitions stay.
-use Rattle.std.proofs.Common.{◌≡◌, ℕ, ◌⊎◌, inl, inr, Bool, true, false, cond, List, [], refl, sym, ap, subst, ◌∙◌, Option, Some, None, IsSome}
+-- Entries that follow on others: what is new of hooks and their state is as it has to be, and accounts and Definitions
+-- stay.
+use Rattle.std.proofs.Common.{◌≡◌, ℕ, ◌⊎◌, inl, inr, Bool, true, false, cond, List, [], refl, sym, ap, subst, ◌∙◌}
+use Rattle.std.proofs.Common.{Option, Some, None, IsSome}
 use Rattle.std.specs.FinMap.{get, insert, remove, get-insert, get-remove}
 use Rattle.hk_base.specs.declared.ids.AccountId.{AccountId}
 use Rattle.hk_base.specs.declared.ids.Hash256.{Hash256}
@@ -31,7 +33,8 @@ pub record Follows (checks : ℕ → List ℕ → Option Checked) (m n : Entries
       (get m (key.Definition hash) ≡ Some x) ⊎ IsDefinition checks hash x
   pub installs : (owner : AccountId) (position : ℕ) (x : Entry) → get n (key.Install owner position) ≡ Some x →
       (get m (key.Install owner position) ≡ Some x) ⊎ IsInstall n owner position x
-  pub states : (q : StateKey) (x : Entry) → get n (as_key q) ≡ Some x → (get m (as_key q) ≡ Some x) ⊎ IsState n q.owner x
+  pub states : (q : StateKey) (x : Entry) → get n (as_key q) ≡ Some x →
+      (get m (as_key q) ≡ Some x) ⊎ IsState n q.owner x
 
 -- the entries of hooks and their state, which stay
 abbrev pub is_kept : Key → Bool
@@ -50,7 +53,8 @@ module _ (checks : ℕ → List ℕ → Option Checked) where
     states = λ q x at. inl at;
   }
 
-  install_on : (m n : Entries) → Follows checks m n → (owner : AccountId) (position : ℕ) (x : Entry) → IsInstall m owner position x → IsInstall n owner position x
+  install_on : (m n : Entries) → Follows checks m n → (owner : AccountId) (position : ℕ) (x : Entry) →
+      IsInstall m owner position x → IsInstall n owner position x
   install_on m n two owner position (entry.Install hash on namespace parameters grants) h = record {
     low = h.low;
     known = two.known hash h.known;
@@ -66,21 +70,25 @@ module _ (checks : ℕ → List ℕ → Option Checked) where
     definition_by hash x (inl at) = one.definitions hash x at
     definition_by hash x (inr is) = inr is
 
-    install_then : (owner : AccountId) (position : ℕ) (x : Entry) → (get l (key.Install owner position) ≡ Some x) ⊎ IsInstall m owner position x →
+    install_then : (owner : AccountId) (position : ℕ) (x : Entry) →
+        (get l (key.Install owner position) ≡ Some x) ⊎ IsInstall m owner position x →
         (get l (key.Install owner position) ≡ Some x) ⊎ IsInstall n owner position x
     install_then owner position x (inl at) = inl at
     install_then owner position x (inr is) = inr (install_on m n two owner position x is)
 
-    install_by : (owner : AccountId) (position : ℕ) (x : Entry) → (get m (key.Install owner position) ≡ Some x) ⊎ IsInstall n owner position x →
+    install_by : (owner : AccountId) (position : ℕ) (x : Entry) →
+        (get m (key.Install owner position) ≡ Some x) ⊎ IsInstall n owner position x →
         (get l (key.Install owner position) ≡ Some x) ⊎ IsInstall n owner position x
     install_by owner position x (inl at) = install_then owner position x (one.installs owner position x at)
     install_by owner position x (inr is) = inr is
 
-    state_then : (q : StateKey) (x : Entry) → (get l (as_key q) ≡ Some x) ⊎ IsState m q.owner x → (get l (as_key q) ≡ Some x) ⊎ IsState n q.owner x
+    state_then : (q : StateKey) (x : Entry) → (get l (as_key q) ≡ Some x) ⊎ IsState m q.owner x →
+        (get l (as_key q) ≡ Some x) ⊎ IsState n q.owner x
     state_then q x (inl at) = inl at
     state_then q x (inr is) = inr (is.0, two.accounts q.owner is.1)
 
-    state_by : (q : StateKey) (x : Entry) → (get m (as_key q) ≡ Some x) ⊎ IsState n q.owner x → (get l (as_key q) ≡ Some x) ⊎ IsState n q.owner x
+    state_by : (q : StateKey) (x : Entry) → (get m (as_key q) ≡ Some x) ⊎ IsState n q.owner x →
+        (get l (as_key q) ≡ Some x) ⊎ IsState n q.owner x
     state_by q x (inl at) = state_then q x (one.states q x at)
     state_by q x (inr is) = inr is
 
@@ -94,11 +102,13 @@ module _ (checks : ℕ → List ℕ → Option Checked) where
     }
 
   module _ (m n : Entries) (complete : IsComplete checks m) (then : Follows checks m n) where
-    definition_so : (hash : Hash256) (x : Entry) → (get m (key.Definition hash) ≡ Some x) ⊎ IsDefinition checks hash x → IsDefinition checks hash x
+    definition_so : (hash : Hash256) (x : Entry) → (get m (key.Definition hash) ≡ Some x) ⊎ IsDefinition checks hash x →
+        IsDefinition checks hash x
     definition_so hash x (inl at) = complete.definitions hash x at
     definition_so hash x (inr is) = is
 
-    install_so : (owner : AccountId) (position : ℕ) (x : Entry) → (get m (key.Install owner position) ≡ Some x) ⊎ IsInstall n owner position x → IsInstall n owner position x
+    install_so : (owner : AccountId) (position : ℕ) (x : Entry) →
+        (get m (key.Install owner position) ≡ Some x) ⊎ IsInstall n owner position x → IsInstall n owner position x
     install_so owner position x (inl at) = install_on m n then owner position x (complete.installs owner position x at)
     install_so owner position x (inr is) = is
 
@@ -114,7 +124,8 @@ module _ (checks : ℕ → List ℕ → Option Checked) where
       states = λ q x at. state_so q x (then.states q x at);
     }
 
-  pub follows_same : (m n : Entries) → ((k : Key) → is_kept k ≡ true → get n k ≡ get m k) → AccountsStay m n → Follows checks m n
+  pub follows_same : (m n : Entries) → ((k : Key) → is_kept k ≡ true → get n k ≡ get m k) → AccountsStay m n →
+      Follows checks m n
   follows_same m n same accounts = record {
     accounts = accounts;
     known = λ hash h. subst IsSome (sym (same (key.Definition hash) refl)) h;
@@ -131,9 +142,11 @@ module _ (checks : ℕ → List ℕ → Option Checked) where
   kept_aside (key.Emitted n) id h = refl
   kept_aside (key.Other bytes) id h = refl
 
-  pub follows_holding : (m : Entries) (id : AccountId) (balance sequence : ℕ) → Follows checks m (with_holding m id balance sequence)
+  pub follows_holding : (m : Entries) (id : AccountId) (balance sequence : ℕ) →
+      Follows checks m (with_holding m id balance sequence)
   follows_holding m id balance sequence =
-      follows_same m (with_holding m id balance sequence) (λ k h. get-with_holding m id balance sequence k (kept_aside k id h)) (stays m id balance sequence)
+      follows_same m (with_holding m id balance sequence)
+      (λ k h. get-with_holding m id balance sequence k (kept_aside k id h)) (stays m id balance sequence)
 
   kept_number : (k : Key) → is_kept k ≡ true → is_numbered k ≡ false
   kept_number (key.Account owner) h = refl
@@ -155,34 +168,47 @@ module _ (checks : ℕ → List ℕ → Option Checked) where
       (λ id h. subst (λ found. IsSome (as_holding found)) (sym (without_other m number (key.Account id) refl)) h)
 
   -- what hooks wrote, by the entries as the event began
-  module _ (reads : List ℕ → Reading) (seq : ℕ) (before : Entries) (Ran : AccountId → ℕ → Type 0) (a b : Draft) (new : a.written ≡ [])
+  module _ (reads : List ℕ → Reading) (seq : ℕ) (before : Entries) (Ran : AccountId → ℕ → Type 0) (a b : Draft)
+      (new : a.written ≡ [])
       (extends : Extends reads seq (IsWriter before Ran) a b) (others : KeepsOthers a.entries b.entries)
-      (complete : IsComplete checks before) (accounts : AccountsStay before a.entries) (sized : AreSized b.entries) where
+      (complete : IsComplete checks before) (accounts : AccountsStay before a.entries)
+      (sized : AreSized b.entries) where
     accounts_so : AccountsStay a.entries b.entries
     accounts_so id h = subst (λ found. IsSome (as_holding found)) (sym (others (key.Account id) refl)) h
 
-    install_there : (owner : AccountId) (position : ℕ) (x : Entry) → IsInstall before owner position x → IsSome (holding_at before owner)
+    install_there : (owner : AccountId) (position : ℕ) (x : Entry) → IsInstall before owner position x →
+        IsSome (holding_at before owner)
     install_there owner position (entry.Install hash on namespace parameters grants) h = h.owned
     install_there owner position other h = absurd h
 
-    found_install : (owner : AccountId) (position : ℕ) (found : Option Entry) (hash : Hash256) → get before (key.Install owner position) ≡ found → hash_of found ≡ Some hash → IsSome (holding_at before owner)
+    found_install : (owner : AccountId) (position : ℕ) (found : Option Entry) (hash : Hash256) →
+        get before (key.Install owner position) ≡ found → hash_of found ≡ Some hash → IsSome (holding_at before owner)
     found_install owner position None hash at is = cc
-    found_install owner position (Some x) hash at is = install_there owner position x (complete.installs owner position x at)
+    found_install owner position (Some x) hash at is =
+        install_there owner position x (complete.installs owner position x at)
 
-    owner_there : (q : StateKey) (w : IsWriter before Ran q) → MayWrite before w.hash w.account q.owner q.namespace → IsSome (holding_at before q.owner)
-    owner_there q w (inl own) = subst (λ id. IsSome (holding_at before id)) (sym own) (found_install w.account w.position (get before (key.Install w.account w.position)) w.hash refl w.at)
-    owner_there q w (inr g) = install_there q.owner g.position (entry.Install g.code g.on q.namespace g.parameters g.grants) (complete.installs q.owner g.position (entry.Install g.code g.on q.namespace g.parameters g.grants) g.there)
+    owner_there : (q : StateKey) (w : IsWriter before Ran q) → MayWrite before w.hash w.account q.owner q.namespace →
+        IsSome (holding_at before q.owner)
+    owner_there q w (inl own) =
+        subst (λ id. IsSome (holding_at before id)) (sym own)
+        (found_install w.account w.position (get before (key.Install w.account w.position)) w.hash refl w.at)
+    owner_there q w (inr g) =
+        install_there q.owner g.position (entry.Install g.code g.on q.namespace g.parameters g.grants)
+        (complete.installs q.owner g.position (entry.Install g.code g.on q.namespace g.parameters g.grants) g.there)
 
     listed_none : (q : StateKey) → is_listed q a.written ≡ true → ⊥
-    listed_none q h = let none : is_listed q a.written ≡ false = ap (is_listed q) new in let bad : true ≡ false = sym h ∙ none in cc
+    listed_none q h =
+        let none : is_listed q a.written ≡ false = ap (is_listed q) new in let bad : true ≡ false = sym h ∙ none in cc
 
-    writes_by : (q : StateKey) (x : Entry) → get b.entries (as_key q) ≡ Some x → (listed : Bool) → is_listed q b.written ≡ listed →
+    writes_by : (q : StateKey) (x : Entry) → get b.entries (as_key q) ≡ Some x → (listed : Bool) →
+        is_listed q b.written ≡ listed →
         (get a.entries (as_key q) ≡ Some x) ⊎ IsState b.entries q.owner x
     writes_by q x at false is = inl (sym (extends.unlisted q is) ∙ at)
-    writes_by q x at true is = elim (extends.grounds q is) as (λ _. (get a.entries (as_key q) ≡ Some x) ⊎ IsState b.entries q.owner x) [
-      | inl listed ↦ absurd (listed_none q listed)
-      | inr g ↦ inr (sized q x at, accounts_so q.owner (accounts q.owner (owner_there q g.0 g.0.may)))
-    ]
+    writes_by q x at true is =
+        elim (extends.grounds q is) as (λ _. (get a.entries (as_key q) ≡ Some x) ⊎ IsState b.entries q.owner x) [
+          | inl listed ↦ absurd (listed_none q listed)
+          | inr g ↦ inr (sized q x at, accounts_so q.owner (accounts q.owner (owner_there q g.0 g.0.may)))
+        ]
 
     pub follows_writes : Follows checks a.entries b.entries
     follows_writes = record {
@@ -206,14 +232,20 @@ module _ (checks : ℕ → List ℕ → Option Checked) where
   was_there : (m : Entries) (k q : Key) (x : Entry) → get (remove m k) q ≡ Some x → get m q ≡ Some x
   was_there m k q x at = still x (is_key q k) (get m q) (sym (get-remove keys_total m k q) ∙ at)
 
-  account_left : (m : Entries) (k : Key) → Gone k → (id : AccountId) → get (remove m k) (key.Account id) ≡ get m (key.Account id)
-  account_left m (key.Install owner position) h id = get-remove keys_total m (key.Install owner position) (key.Account id)
-  account_left m (key.State owner namespace k) h id = get-remove keys_total m (key.State owner namespace k) (key.Account id)
+  account_left : (m : Entries) (k : Key) → Gone k → (id : AccountId) →
+      get (remove m k) (key.Account id) ≡ get m (key.Account id)
+  account_left m (key.Install owner position) h id =
+      get-remove keys_total m (key.Install owner position) (key.Account id)
+  account_left m (key.State owner namespace k) h id =
+      get-remove keys_total m (key.State owner namespace k) (key.Account id)
   account_left m other h id = absurd h
 
-  definition_left : (m : Entries) (k : Key) → Gone k → (hash : Hash256) → get (remove m k) (key.Definition hash) ≡ get m (key.Definition hash)
-  definition_left m (key.Install owner position) h hash = get-remove keys_total m (key.Install owner position) (key.Definition hash)
-  definition_left m (key.State owner namespace k) h hash = get-remove keys_total m (key.State owner namespace k) (key.Definition hash)
+  definition_left : (m : Entries) (k : Key) → Gone k → (hash : Hash256) →
+      get (remove m k) (key.Definition hash) ≡ get m (key.Definition hash)
+  definition_left m (key.Install owner position) h hash =
+      get-remove keys_total m (key.Install owner position) (key.Definition hash)
+  definition_left m (key.State owner namespace k) h hash =
+      get-remove keys_total m (key.State owner namespace k) (key.Definition hash)
   definition_left m other h hash = absurd h
 
   pub follows_removal : (m : Entries) (k : Key) → Gone k → Follows checks m (remove m k)
@@ -231,7 +263,8 @@ module _ (checks : ℕ → List ℕ → Option Checked) where
     put = insert m (key.Install owner position) x
 
     put_aside : (q : Key) → is_key q (key.Install owner position) ≡ false → get put q ≡ get m q
-    put_aside q other = get-insert keys_total m (key.Install owner position) x q ∙ ap (λ b. cond b (Some x) (get m q)) other
+    put_aside q other =
+        get-insert keys_total m (key.Install owner position) x q ∙ ap (λ b. cond b (Some x) (get m q)) other
 
     install_put : (y : Entry) → IsInstall m owner position y → IsInstall put owner position y
     install_put (entry.Install hash on namespace parameters grants) h = record {
@@ -247,11 +280,14 @@ module _ (checks : ℕ → List ℕ → Option Checked) where
     IsInstallAt (key.Install id at) y = IsInstall put id at y
     IsInstallAt other y = Unit {0}
 
-    installs_by : (id : AccountId) (at : ℕ) (y : Entry) (b : Bool) → is_key (key.Install id at) (key.Install owner position) ≡ b →
-        cond b (Some x) (get m (key.Install id at)) ≡ Some y → (get m (key.Install id at) ≡ Some y) ⊎ IsInstall put id at y
+    installs_by : (id : AccountId) (at : ℕ) (y : Entry) (b : Bool) →
+        is_key (key.Install id at) (key.Install owner position) ≡ b →
+        cond b (Some x) (get m (key.Install id at)) ≡ Some y →
+        (get m (key.Install id at) ≡ Some y) ⊎ IsInstall put id at y
     installs_by id at y true same there =
         let made : x ≡ y = cc in
-        inr (subst (λ k. IsInstallAt k y) (sym (exact (key.Install id at) (key.Install owner position) same)) (subst (λ z. IsInstall put owner position z) made (install_put x is)))
+        inr (subst (λ k. IsInstallAt k y) (sym (exact (key.Install id at) (key.Install owner position) same))
+        (subst (λ z. IsInstall put owner position z) made (install_put x is)))
     installs_by id at y false other there = inl there
 
     pub follows_install : Follows checks m put
@@ -259,7 +295,10 @@ module _ (checks : ℕ → List ℕ → Option Checked) where
       accounts = λ id h. subst (λ found. IsSome (as_holding found)) (sym (put_aside (key.Account id) refl)) h;
       known = λ hash h. subst IsSome (sym (put_aside (key.Definition hash) refl)) h;
       definitions = λ hash y at. inl (sym (put_aside (key.Definition hash) refl) ∙ at);
-      installs = λ id at y there. installs_by id at y (is_key (key.Install id at) (key.Install owner position)) refl (sym (get-insert keys_total m (key.Install owner position) x (key.Install id at)) ∙ there);
+      installs =
+          λ id at y there.
+          installs_by id at y (is_key (key.Install id at) (key.Install owner position)) refl
+          (sym (get-insert keys_total m (key.Install owner position) x (key.Install id at)) ∙ there);
       states = λ q y at. inl (sym (put_aside (as_key q) refl) ∙ at);
     }
 
@@ -269,7 +308,8 @@ module _ (checks : ℕ → List ℕ → Option Checked) where
     defining = insert m (key.Definition hash) x
 
     defining_aside : (q : Key) → is_key q (key.Definition hash) ≡ false → get defining q ≡ get m q
-    defining_aside q other = get-insert keys_total m (key.Definition hash) x q ∙ ap (λ b. cond b (Some x) (get m q)) other
+    defining_aside q other =
+        get-insert keys_total m (key.Definition hash) x q ∙ ap (λ b. cond b (Some x) (get m q)) other
 
     known_by : (b : Bool) (found : Option Entry) → IsSome found → IsSome (cond b (Some x) found)
     known_by true found h = refl
@@ -279,18 +319,27 @@ module _ (checks : ℕ → List ℕ → Option Checked) where
     IsDefinitionAt (key.Definition other) y = IsDefinition checks other y
     IsDefinitionAt k y = Unit {0}
 
-    definitions_by : (other : Hash256) (y : Entry) (b : Bool) → is_key (key.Definition other) (key.Definition hash) ≡ b →
-        cond b (Some x) (get m (key.Definition other)) ≡ Some y → (get m (key.Definition other) ≡ Some y) ⊎ IsDefinition checks other y
+    definitions_by : (other : Hash256) (y : Entry) (b : Bool) →
+        is_key (key.Definition other) (key.Definition hash) ≡ b →
+        cond b (Some x) (get m (key.Definition other)) ≡ Some y →
+        (get m (key.Definition other) ≡ Some y) ⊎ IsDefinition checks other y
     definitions_by other y true same there =
         let made : x ≡ y = cc in
-        inr (subst (λ k. IsDefinitionAt k y) (sym (exact (key.Definition other) (key.Definition hash) same)) (subst (λ z. IsDefinition checks hash z) made is))
+        inr (subst (λ k. IsDefinitionAt k y) (sym (exact (key.Definition other) (key.Definition hash) same))
+        (subst (λ z. IsDefinition checks hash z) made is))
     definitions_by other y false apart there = inl there
 
     pub follows_definition : Follows checks m defining
     follows_definition = record {
       accounts = λ id h. subst (λ found. IsSome (as_holding found)) (sym (defining_aside (key.Account id) refl)) h;
-      known = λ other h. subst IsSome (sym (get-insert keys_total m (key.Definition hash) x (key.Definition other))) (known_by (is_key (key.Definition other) (key.Definition hash)) (get m (key.Definition other)) h);
-      definitions = λ other y there. definitions_by other y (is_key (key.Definition other) (key.Definition hash)) refl (sym (get-insert keys_total m (key.Definition hash) x (key.Definition other)) ∙ there);
+      known =
+          λ other h.
+          subst IsSome (sym (get-insert keys_total m (key.Definition hash) x (key.Definition other)))
+          (known_by (is_key (key.Definition other) (key.Definition hash)) (get m (key.Definition other)) h);
+      definitions =
+          λ other y there.
+          definitions_by other y (is_key (key.Definition other) (key.Definition hash)) refl
+          (sym (get-insert keys_total m (key.Definition hash) x (key.Definition other)) ∙ there);
       installs = λ owner position y at. inl (sym (defining_aside (key.Install owner position) refl) ∙ at);
       states = λ q y at. inl (sym (defining_aside (as_key q) refl) ∙ at);
     }

@@ -1,5 +1,6 @@
 -- Emissions that enter the queue.
-use Rattle.std.proofs.Common.{◌≡◌, ℕ, ◌+◌, ◌<◌, ◌==◌, Bool, true, false, cond, List, [], ◌∷◌, ◌++◌, length, refl, sym, ap, subst, ◌∙◌, arith, Option, Some, None}
+use Rattle.std.proofs.Common.{◌≡◌, ℕ, ◌+◌, ◌<◌, ◌==◌, Bool, true, false, cond, List, [], ◌∷◌, ◌++◌, length, refl, sym}
+use Rattle.std.proofs.Common.{ap, subst, ◌∙◌, arith, Option, Some, None}
 use Rattle.std.proofs.lemmas.Bool.{eq-eqb}
 use Rattle.std.specs.FinMap.{get, insert, remove, get-insert, get-remove}
 use Rattle.hk_lines.specs.declared.output_line.OutputLine.{OutputLine}
@@ -63,8 +64,10 @@ queue_others next (e ∷ es) m k h =
     ∙ ap (λ b. cond b (Some (queued e)) (get m k)) (other_kind k next h)
 
 -- without an emission
-pub without_other : (m : Entries) (number : ℕ) (k : Key) → is_numbered k ≡ false → get (remove m (key.Emitted number)) k ≡ get m k
-without_other m number k h = get-remove keys_total m (key.Emitted number) k ∙ ap (λ b. cond b None (get m k)) (other_kind k number h)
+pub without_other : (m : Entries) (number : ℕ) (k : Key) → is_numbered k ≡ false →
+    get (remove m (key.Emitted number)) k ≡ get m k
+without_other m number k h =
+    get-remove keys_total m (key.Emitted number) k ∙ ap (λ b. cond b None (get m k)) (other_kind k number h)
 
 pub queue_sum : (next : ℕ) (es : List Emission) (m : Entries) → balances (with_queued next es m) ≡ balances m
 queue_sum next [] m = refl
@@ -95,15 +98,18 @@ queue_below next (e ∷ es) m n low =
     ∙ put_other m next n e (λ same. absurd (omega (arith, low, same)))
 
 -- numbers without a line stay
-pub queue_silent : (next : ℕ) (es : List Emission) (m : Entries) (n : ℕ) → counted (is_emit n) (emit_lines next es) ≡ 0 →
+pub queue_silent : (next : ℕ) (es : List Emission) (m : Entries) (n : ℕ) →
+    counted (is_emit n) (emit_lines next es) ≡ 0 →
     get (with_queued next es m) (key.Emitted n) ≡ get m (key.Emitted n)
 queue_silent next [] m n none = refl
 queue_silent next (e ∷ es) m n none =
     queue_silent (next + 1) es (insert m (key.Emitted next) (queued e)) n (omega (arith, none))
-    ∙ put_other m next n e (λ same. let here : one_if (next == n) ≡ 1 = ap one_if (eq-eqb next n (sym same)) in absurd (omega (arith, none, here)))
+    ∙ put_other m next n e (λ same.
+    let here : one_if (next == n) ≡ 1 = ap one_if (eq-eqb next n (sym same)) in absurd (omega (arith, none, here)))
 
 -- each line's emission waits
-pub queue_lines : (next : ℕ) (es : List Emission) (m : Entries) → Each (IsQueuedIn (with_queued next es m)) (emit_lines next es)
+pub queue_lines : (next : ℕ) (es : List Emission) (m : Entries) →
+    Each (IsQueuedIn (with_queued next es m)) (emit_lines next es)
 queue_lines next [] m = tt
 queue_lines next (e ∷ es) m =
     let n : Entries = insert m (key.Emitted next) (queued e) in
@@ -111,16 +117,19 @@ queue_lines next (e ∷ es) m =
     queue_below (next + 1) es n next (omega arith) ∙ put_here m next e in
     (subst (WaitsFor e.first e.last) (sym at) (refl, refl), queue_lines (next + 1) es n)
 
-pub emit_lines-append : (next : ℕ) (es fs : List Emission) → emit_lines next (es ++ fs) ≡ emit_lines next es ++ emit_lines (next + length es) fs
+pub emit_lines-append : (next : ℕ) (es fs : List Emission) →
+    emit_lines next (es ++ fs) ≡ emit_lines next es ++ emit_lines (next + length es) fs
 emit_lines-append next [] fs = ap (λ n. emit_lines n fs) (let same : next ≡ next + 0 = omega arith in same)
 emit_lines-append next (e ∷ es) fs =
     ap (λ lines. printed.Emit next e.first e.last ∷ lines)
     (emit_lines-append (next + 1) es fs
-    ∙ ap (λ n. emit_lines (next + 1) es ++ emit_lines n fs) (let same : next + 1 + length es ≡ next + length (e ∷ es) = omega arith in same))
+    ∙ ap (λ n. emit_lines (next + 1) es ++ emit_lines n fs)
+    (let same : next + 1 + length es ≡ next + length (e ∷ es) = omega arith in same))
 
 -- the queue stays good
 module _ (reads : List ℕ → Reading) (seq : ℕ) where
-  good_at : (next : ℕ) (e : Emission) (m : Entries) → Emits reads seq e → IsQueueGood reads next m → (n : ℕ) (x : Entry) (b : Bool) →
+  good_at : (next : ℕ) (e : Emission) (m : Entries) → Emits reads seq e → IsQueueGood reads next m →
+      (n : ℕ) (x : Entry) (b : Bool) →
       is_key (key.Emitted n) (key.Emitted next) ≡ b → cond b (Some (queued e)) (get m (key.Emitted n)) ≡ Some x →
       (n < next + 1) × IsQueued reads x
   good_at next e m emits good n x true same at =
@@ -136,11 +145,14 @@ module _ (reads : List ℕ → Reading) (seq : ℕ) where
       good_at next e m emits good n x (is_key (key.Emitted n) (key.Emitted next)) refl
       (sym (get-insert keys_total m (key.Emitted next) (queued e) (key.Emitted n)) ∙ at)
 
-  pub good_queue : (next : ℕ) (es : List Emission) (m : Entries) → Each (Emits reads seq) es → IsQueueGood reads next m →
+  pub good_queue : (next : ℕ) (es : List Emission) (m : Entries) → Each (Emits reads seq) es →
+      IsQueueGood reads next m →
       IsQueueGood reads (next + length es) (with_queued next es m)
   good_queue next [] m emits good n x at = let low = (good n x at).0 in (omega (arith, low), (good n x at).1)
   good_queue next (e ∷ es) m emits good n x at =
-      let rest = good_queue (next + 1) es (insert m (key.Emitted next) (queued e)) emits.1 (good_put next e m emits.0 good) n x at in
+      let rest =
+      good_queue (next + 1) es (insert m (key.Emitted next) (queued e)) emits.1 (good_put next e m emits.0 good) n x
+      at in
       let low = rest.0 in (omega (arith, low), rest.1)
 
 -- lines of other kinds say nothing of the queue
@@ -167,4 +179,5 @@ module _ (m : Entries) where
       each-append (IsQueuedIn m) records (state_lines d.entries d.written ++ emit_lines next d.emissions)
       (each-map IsRecord (IsQueuedIn m) record_queued records are)
       (each-append (IsQueuedIn m) (state_lines d.entries d.written) (emit_lines next d.emissions)
-      (each-map IsState (IsQueuedIn m) state_queued (state_lines d.entries d.written) (all_state d.entries d.written)) emits)
+      (each-map IsState (IsQueuedIn m) state_queued (state_lines d.entries d.written) (all_state d.entries d.written))
+      emits)

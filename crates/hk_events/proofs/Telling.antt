@@ -1,5 +1,6 @@
 -- What lines tell of a ledger.
-use Rattle.std.proofs.Common.{◌≡◌, ℕ, ◌+◌, Bool, true, false, ◌||◌, if◌then◌else◌, List, [], ◌∷◌, ◌++◌, length, refl, sym, ap, ◌∙◌, arith, Option, Some, None}
+use Rattle.std.proofs.Common.{◌≡◌, ℕ, ◌+◌, Bool, true, false, ◌||◌, if◌then◌else◌, List, [], ◌∷◌, ◌++◌, length, refl}
+use Rattle.std.proofs.Common.{sym, ap, ◌∙◌, arith, Option, Some, None}
 use Rattle.std.specs.Option.{option_or, option_map}
 use Rattle.std.specs.FinMap.{get}
 use Rattle.hk_lines.specs.declared.output_line.OutputLine.{OutputLine}
@@ -70,13 +71,17 @@ module _ (q : StateKey) where
   emit_change other h = absurd h
 
   pub records_told : (lines : List OutputLine) → Each IsRecord lines → last_of (change_of q) lines ≡ None
-  records_told lines h = none_last (change_of q) lines (each-map IsRecord (λ line. change_of q line ≡ None) record_change lines h)
+  records_told lines h =
+      none_last (change_of q) lines (each-map IsRecord (λ line. change_of q line ≡ None) record_change lines h)
 
   pub front_told : (lines : List OutputLine) → Each IsFront lines → last_of (change_of q) lines ≡ None
-  front_told lines h = none_last (change_of q) lines (each-map IsFront (λ line. change_of q line ≡ None) front_change lines h)
+  front_told lines h =
+      none_last (change_of q) lines (each-map IsFront (λ line. change_of q line ≡ None) front_change lines h)
 
   pub emits_told : (next : ℕ) (es : List Emission) → last_of (change_of q) (emit_lines next es) ≡ None
-  emits_told next es = none_last (change_of q) (emit_lines next es) (each-map IsEmit (λ line. change_of q line ≡ None) emit_change (emit_lines next es) (all_emit next es))
+  emits_told next es =
+      none_last (change_of q) (emit_lines next es)
+      (each-map IsEmit (λ line. change_of q line ≡ None) emit_change (emit_lines next es) (all_emit next es))
 
 record_emission : (line : OutputLine) → IsRecord line → is_emission line ≡ false
 record_emission (printed.Hook account position outcome count bound) h = refl
@@ -92,13 +97,17 @@ front_emission (printed.Settled number word result fee) h = refl
 front_emission other h = absurd h
 
 pub records_emissions : (lines : List OutputLine) → Each IsRecord lines → counted is_emission lines ≡ 0
-records_emissions lines h = none_counted is_emission lines (each-map IsRecord (λ line. is_emission line ≡ false) record_emission lines h)
+records_emissions lines h =
+    none_counted is_emission lines (each-map IsRecord (λ line. is_emission line ≡ false) record_emission lines h)
 
 pub front_emissions : (lines : List OutputLine) → Each IsFront lines → counted is_emission lines ≡ 0
-front_emissions lines h = none_counted is_emission lines (each-map IsFront (λ line. is_emission line ≡ false) front_emission lines h)
+front_emissions lines h =
+    none_counted is_emission lines (each-map IsFront (λ line. is_emission line ≡ false) front_emission lines h)
 
 states_emissions : (m : Entries) (qs : List StateKey) → counted is_emission (state_lines m qs) ≡ 0
-states_emissions m qs = none_counted is_emission (state_lines m qs) (each-map IsState (λ line. is_emission line ≡ false) state_emission (state_lines m qs) (all_state m qs))
+states_emissions m qs =
+    none_counted is_emission (state_lines m qs)
+    (each-map IsState (λ line. is_emission line ≡ false) state_emission (state_lines m qs) (all_state m qs))
 
 emits_emissions : (next : ℕ) (es : List Emission) → counted is_emission (emit_lines next es) ≡ length es
 emits_emissions next [] = refl
@@ -119,13 +128,17 @@ module _ (n : ℕ) where
   front_emit other h = absurd h
 
   pub records_emit : (lines : List OutputLine) → Each IsRecord lines → counted (is_emit n) lines ≡ 0
-  records_emit lines h = none_counted (is_emit n) lines (each-map IsRecord (λ line. is_emit n line ≡ false) record_emit lines h)
+  records_emit lines h =
+      none_counted (is_emit n) lines (each-map IsRecord (λ line. is_emit n line ≡ false) record_emit lines h)
 
   pub front_emits : (lines : List OutputLine) → Each IsFront lines → counted (is_emit n) lines ≡ 0
-  front_emits lines h = none_counted (is_emit n) lines (each-map IsFront (λ line. is_emit n line ≡ false) front_emit lines h)
+  front_emits lines h =
+      none_counted (is_emit n) lines (each-map IsFront (λ line. is_emit n line ≡ false) front_emit lines h)
 
   states_emit : (m : Entries) (qs : List StateKey) → counted (is_emit n) (state_lines m qs) ≡ 0
-  states_emit m qs = none_counted (is_emit n) (state_lines m qs) (each-map IsState (λ line. is_emit n line ≡ false) state_emit (state_lines m qs) (all_state m qs))
+  states_emit m qs =
+      none_counted (is_emit n) (state_lines m qs)
+      (each-map IsState (λ line. is_emit n line ≡ false) state_emit (state_lines m qs) (all_state m qs))
 
   record_settled : (line : OutputLine) → IsRecord line → is_settled n line ≡ false
   record_settled (printed.Hook account position outcome count bound) h = refl
@@ -141,17 +154,25 @@ module _ (n : ℕ) where
   emit_settled other h = absurd h
 
   records_settled : (lines : List OutputLine) → Each IsRecord lines → counted (is_settled n) lines ≡ 0
-  records_settled lines h = none_counted (is_settled n) lines (each-map IsRecord (λ line. is_settled n line ≡ false) record_settled lines h)
+  records_settled lines h =
+      none_counted (is_settled n) lines (each-map IsRecord (λ line. is_settled n line ≡ false) record_settled lines h)
 
   states_settled : (m : Entries) (qs : List StateKey) → counted (is_settled n) (state_lines m qs) ≡ 0
-  states_settled m qs = none_counted (is_settled n) (state_lines m qs) (each-map IsState (λ line. is_settled n line ≡ false) state_settled (state_lines m qs) (all_state m qs))
+  states_settled m qs =
+      none_counted (is_settled n) (state_lines m qs)
+      (each-map IsState (λ line. is_settled n line ≡ false) state_settled (state_lines m qs) (all_state m qs))
 
   emits_settled : (next : ℕ) (es : List Emission) → counted (is_settled n) (emit_lines next es) ≡ 0
-  emits_settled next es = none_counted (is_settled n) (emit_lines next es) (each-map IsEmit (λ line. is_settled n line ≡ false) emit_settled (emit_lines next es) (all_emit next es))
+  emits_settled next es =
+      none_counted (is_settled n) (emit_lines next es)
+      (each-map IsEmit (λ line. is_settled n line ≡ false) emit_settled (emit_lines next es) (all_emit next es))
 
 -- what is kept, in three parts
 module _ (next : ℕ) (d : Draft) (records : List OutputLine) (are : Each IsRecord records) where
-  pub kept_counted : (test : OutputLine → Bool) → counted test (kept_lines next d records) ≡ counted test records + (counted test (state_lines d.entries d.written) + counted test (emit_lines next d.emissions))
+  pub kept_counted : (test : OutputLine → Bool) →
+      counted test (kept_lines next d records)
+      ≡ counted test records +
+      (counted test (state_lines d.entries d.written) + counted test (emit_lines next d.emissions))
   kept_counted test =
       let all = counted-append test records (state_lines d.entries d.written ++ emit_lines next d.emissions) in
       let rest = counted-append test (state_lines d.entries d.written) (emit_lines next d.emissions) in
@@ -165,7 +186,8 @@ module _ (next : ℕ) (d : Draft) (records : List OutputLine) (are : Each IsReco
       let three = emits_emissions next d.emissions in
       omega (arith, all, one, two, three)
 
-  pub kept_emit : (n : ℕ) → counted (is_emit n) (kept_lines next d records) ≡ counted (is_emit n) (emit_lines next d.emissions)
+  pub kept_emit : (n : ℕ) →
+      counted (is_emit n) (kept_lines next d records) ≡ counted (is_emit n) (emit_lines next d.emissions)
   kept_emit n =
       let all = kept_counted (is_emit n) in
       let one = records_emit n records are in
@@ -189,10 +211,13 @@ told_back None h = refl
 told_back (Some (entry.State bytes)) h = refl
 told_back (Some other) h = absurd h
 
-line_tells : (m : Entries) (q p : StateKey) (b : Bool) → is_key (as_key q) (as_key p) ≡ b → (b ≡ true → HoldsState (get m (as_key q))) →
-    (if b then Some (option_map (λ bytes. entry.State bytes) (value_of (get m (as_key p)))) else None) ≡ heard b (get m (as_key q))
+line_tells : (m : Entries) (q p : StateKey) (b : Bool) → is_key (as_key q) (as_key p) ≡ b →
+    (b ≡ true → HoldsState (get m (as_key q))) →
+    (if b then Some (option_map (λ bytes. entry.State bytes) (value_of (get m (as_key p)))) else None)
+    ≡ heard b (get m (as_key q))
 line_tells m q p true same holds =
-    ap (λ k. Some (option_map (λ bytes. entry.State bytes) (value_of (get m k)))) (sym (exact (as_key q) (as_key p) same))
+    ap (λ k. Some (option_map (λ bytes. entry.State bytes) (value_of (get m k))))
+    (sym (exact (as_key q) (as_key p) same))
     ∙ ap Some (told_back (get m (as_key q)) (holds refl))
 line_tells m q p false same holds = refl
 
@@ -216,15 +241,19 @@ module _ (m : Entries) (q : StateKey) where
       let later : (is_listed q qs ≡ true) → HoldsState (get m (as_key q)) =
       (λ h. holds (ap (λ b. is_key (as_key q) (as_key p) || b) h ∙ or_true (is_key (as_key q) (as_key p)))) in
       ap (λ o. option_or o (change_of q (state_line m p))) (states_told qs later)
-      ∙ ap (λ o. option_or (heard (is_listed q qs) (get m (as_key q))) o) (line_tells m q p (is_key (as_key q) (as_key p)) refl here)
+      ∙ ap (λ o. option_or (heard (is_listed q qs) (get m (as_key q))) o)
+      (line_tells m q p (is_key (as_key q) (as_key p)) refl here)
       ∙ heard_or (is_key (as_key q) (as_key p)) (is_listed q qs) (get m (as_key q))
 
-  pub kept_told : (next : ℕ) (written : List StateKey) (es : List Emission) (records : List OutputLine) → Each IsRecord records →
+  pub kept_told : (next : ℕ) (written : List StateKey) (es : List Emission) (records : List OutputLine) →
+      Each IsRecord records →
       (is_listed q written ≡ true → HoldsState (get m (as_key q))) →
-      last_of (change_of q) (kept_lines next (record { entries = m; written = written; emissions = es }) records) ≡ heard (is_listed q written) (get m (as_key q))
+      last_of (change_of q) (kept_lines next (record { entries = m; written = written; emissions = es }) records)
+      ≡ heard (is_listed q written) (get m (as_key q))
   kept_told next written es records are holds =
       last_of-append (change_of q) records (state_lines m written ++ emit_lines next es)
-      ∙ ap (λ o. option_or (last_of (change_of q) (state_lines m written ++ emit_lines next es)) o) (records_told q records are)
+      ∙ ap (λ o. option_or (last_of (change_of q) (state_lines m written ++ emit_lines next es)) o)
+      (records_told q records are)
       ∙ or_none _
       ∙ last_of-append (change_of q) (state_lines m written) (emit_lines next es)
       ∙ ap (λ o. option_or o (last_of (change_of q) (state_lines m written))) (emits_told q next es)

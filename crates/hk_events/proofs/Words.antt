@@ -4,7 +4,8 @@ use Rattle.std.specs.Option.{option_or}
 use Rattle.hk_draft.specs.Lists.{Each}
 use Rattle.hk_events.specs.Lists.{one_if, counted, last_of}
 
-pub counted-append : {X : Type 0} (test : X → Bool) (xs ys : List X) → counted test (xs ++ ys) ≡ counted test xs + counted test ys
+pub counted-append : {X : Type 0} (test : X → Bool) (xs ys : List X) →
+    counted test (xs ++ ys) ≡ counted test xs + counted test ys
 counted-append test [] ys = omega arith
 counted-append test (x ∷ xs) ys = let rest = counted-append test xs ys in omega (arith, rest)
 

@@ -1,5 +1,6 @@
 -- The items of a change of hooks, SetHook: the item at place k is about the hook at position k. This project's own.
-use Rattle.std.specs.Prelude.{ℕ, ◌+◌, ◌&&◌, Bool, false, not, nat_lt, if◌then◌else◌, List, [], ◌∷◌, replicate, Option, Some, None, is_some, unwrap_or}
+use Rattle.std.specs.Prelude.{ℕ, ◌+◌, ◌&&◌, Bool, false, not, nat_lt, if◌then◌else◌, List, [], ◌∷◌, replicate, Option}
+use Rattle.std.specs.Prelude.{Some, None, is_some, unwrap_or}
 use Rattle.std.specs.List.{filter_map}
 use Rattle.std.specs.Str.{bytes_eq}
 use Rattle.std.specs.FinMap.{get, insert, remove, entries}
@@ -10,7 +11,8 @@ use Rattle.xo_object.specs.declared.transaction.HookItem.{HookItem}
 use Rattle.xo_object.specs.declared.transaction.HookItem.TheVariants as item
 use Rattle.xo_object.specs.declared.transaction.Parameter.{Parameter}
 use Rattle.hk_lines.specs.declared.result_name.ResultName.{ResultName}
-use Rattle.hk_lines.specs.declared.result_name.ResultName.TheVariants.{Occupied, HookRefused, NoDefinition, NoInstall, Reserve}
+use Rattle.hk_lines.specs.declared.result_name.ResultName.TheVariants.{Occupied, HookRefused, NoDefinition, NoInstall}
+use Rattle.hk_lines.specs.declared.result_name.ResultName.TheVariants.{Reserve}
 use Rattle.hk_state.specs.declared.entry.Entry.{Entry}
 use Rattle.hk_state.specs.declared.entry.Entry.TheVariants as entry
 use Rattle.hk_state.specs.declared.entry.Holding.{Holding}
@@ -87,7 +89,8 @@ abbrev pub updated : AccountId → ℕ → Option Hash256 → Option Hash256 →
     Draft → Option Entry → ItemEnd
 updated owner position on namespace parameters grants d (Some (entry.Install hash mask space values leave)) =
     leaves (put_install owner position
-    (entry.Install hash (unwrap_or on mask) (unwrap_or namespace space) (unwrap_or parameters values) (unwrap_or grants leave)) d)
+    (entry.Install hash (unwrap_or on mask) (unwrap_or namespace space) (unwrap_or parameters values)
+    (unwrap_or grants leave)) d)
 updated owner position on namespace parameters grants d other = stops NoInstall
 
 -- one item of an account, at its position

@@ -101,7 +101,8 @@ HasNone q (leaves d) = get d.entries (as_key q) ≡ None
 HasNone q (stops name) = ⊥
 
 abbrev pub NamespacesEmptied : Type 0
-NamespacesEmptied = (e : Engine) (position : ℕ) (q : StateKey) (d : Draft) → is_in q.owner q.namespace (as_key q) ≡ true →
+NamespacesEmptied =
+    (e : Engine) (position : ℕ) (q : StateKey) (d : Draft) → is_in q.owner q.namespace (as_key q) ≡ true →
     HasNone q (item_end e q.owner position (DeleteNamespace q.namespace) d)
 
 -- the least number under which an emission is due is the first of those that are due; and where none is, there is none

@@ -5,7 +5,9 @@ use Rattle.hk_base.specs.Rows.{first_row}
 use Rattle.hk_lines.specs.declared.verdict.Verdict.{Verdict}
 use Rattle.hk_lines.specs.declared.verdict.Verdict.TheVariants.{Good, Bad}
 use Rattle.hk_lines.specs.declared.result_name.ResultName.{ResultName}
-use Rattle.hk_lines.specs.declared.result_name.ResultName.TheVariants.{BadSignature, NoAccount, PastSequence, FutureSequence, Early, Expired, FeeTooSmall, FeeUnfunded}
+use Rattle.hk_lines.specs.declared.result_name.ResultName.TheVariants.{BadSignature, NoAccount, PastSequence}
+use Rattle.hk_lines.specs.declared.result_name.ResultName.TheVariants.{FutureSequence, Early, Expired, FeeTooSmall}
+use Rattle.hk_lines.specs.declared.result_name.ResultName.TheVariants.{FeeUnfunded}
 use Rattle.hk_state.specs.declared.entry.Holding.{Holding}
 use Rattle.hk_state.specs.Entries.{Entries}
 use Rattle.hk_state.specs.Holdings.{holding_at, with_holding}

@@ -1,5 +1,6 @@
 -- The settlement of queued emissions, with their callbacks. This project's own.
-use Rattle.std.specs.Prelude.{ℕ, ◌+◌, Bool, nat_lt, nat_le, false, if◌then◌else◌, List, [], ◌∷◌, ◌++◌, length, drop, Option, Some, None}
+use Rattle.std.specs.Prelude.{ℕ, ◌+◌, Bool, nat_lt, nat_le, false, if◌then◌else◌, List, [], ◌∷◌, ◌++◌, length, drop}
+use Rattle.std.specs.Prelude.{Option, Some, None}
 use Rattle.std.specs.FinMap.{get, remove, entries}
 use Rattle.hk_base.specs.declared.ids.AccountId.{AccountId}
 use Rattle.hk_base.specs.declared.ids.Hash256.{Hash256}

@@ -52,7 +52,8 @@ pub fn finds_due()
     ensures none { FindsNone }
 {}
 
-/// An overlay's writes are those of its draft, and a commit of them with the queued emissions is what enters the ledger.
+/// An overlay's writes are those of its draft, and a commit of them with the queued emissions is what enters the
+/// ledger.
 pub fn committing()
     ensures overlays { OverlaysSo }
     ensures commits { CommitsSo }

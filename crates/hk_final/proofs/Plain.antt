@@ -63,7 +63,8 @@ module _ (m : Entries) (none : (k : Key) → is_by_hooks k ≡ true → get m k 
   not_own : (first k : Key) (e : Entry) → get m k ≡ Some e → is_own first k ≡ false
   not_own first k e at = elim (is_own first k) as (λ b. is_own first k ≡ b → b ≡ false) [
     | true ↦ λ own.
-        let by : is_by_hooks k ≡ true = beside_by_hooks first k (and_parts (is_from first k) (are_beside first k) own).1 in
+        let by : is_by_hooks k ≡ true =
+        beside_by_hooks first k (and_parts (is_from first k) (are_beside first k) own).1 in
         let not = not_by_hooks k e at in
         let differ : true ≡ false = sym by ∙ not in cc
     | false ↦ λ not. refl

@@ -1,5 +1,6 @@
 -- Answers to items and what they mean, step by step; and engines that check and reserve alike.
-use Rattle.std.proofs.Common.{◌≡◌, ◌∙◌, ap, sym, refl, subst, ℕ, ◌+◌, ◌≤◌, true, false, if◌then◌else◌, nat_lt, List, [], ◌∷◌, drop}
+use Rattle.std.proofs.Common.{◌≡◌, ◌∙◌, ap, sym, refl, subst, ℕ, ◌+◌, ◌≤◌, true, false, if◌then◌else◌, nat_lt, List, []}
+use Rattle.std.proofs.Common.{◌∷◌, drop}
 use Rattle.hk_base.specs.declared.ids.AccountId.{AccountId}
 use Rattle.xo_object.specs.declared.transaction.HookItem.{HookItem}
 use Rattle.xo_object.specs.declared.transaction.HookItem.TheVariants as item
@@ -16,7 +17,8 @@ use Rattle.hk_state.specs.Writes.{Writes, with_writes}
 use Rattle.hk_draft.specs.Draft.{Draft}
 use Rattle.hk_draft.specs.Drafted.{draft_of}
 use Rattle.hk_events.specs.Engine.{Engine}
-use Rattle.hk_events.specs.Items.{ItemEnd, leaves, stops, item_end, items_end, hooks_end, then_items, created, is_occupied, reserved, is_short, balance_of}
+use Rattle.hk_events.specs.Items.{ItemEnd, leaves, stops, item_end, items_end, hooks_end, then_items, created}
+use Rattle.hk_events.specs.Items.{is_occupied, reserved, is_short, balance_of}
 use Rattle.hk_items.specs.Checks.{checked_in}
 use Rattle.hk_items.specs.Endings.{Means, plain}
 use Rattle.hk_items.proofs.Grown.{Grows}

@@ -1,5 +1,6 @@
 -- New code is a part of the transaction that brings it, so the fee for it is at most 10 drops for each of its bytes.
-use Rattle.std.proofs.Common.{◌≡◌, ap, sym, subst, refl, arith, ℕ, ◌+◌, ◌*◌, ◌≤◌, ◌==◌, Bool, true, false, if◌then◌else◌, List, [], ◌∷◌, ◌++◌, length, length-append, Option, Some, None}
+use Rattle.std.proofs.Common.{◌≡◌, ap, sym, subst, refl, arith, ℕ, ◌+◌, ◌*◌, ◌≤◌, ◌==◌, Bool, true, false}
+use Rattle.std.proofs.Common.{if◌then◌else◌, List, [], ◌∷◌, ◌++◌, length, length-append, Option, Some, None}
 use Rattle.std.specs.Option.{unwrap_or}
 use Rattle.xo_fields.specs.declared.field.FieldId.{FieldId}
 use Rattle.xo_fields.specs.declared.form.Form.{Form}
@@ -13,7 +14,8 @@ use Rattle.xo_list.proofs.ListLemmas.{spelling_one, array_one}
 use Rattle.xo_object.specs.declared.transaction.HookItem.{HookItem}
 use Rattle.xo_object.specs.declared.transaction.Transaction.{Transaction}
 use Rattle.xo_object.specs.Names as names
-use Rattle.xo_object.specs.Transaction.{Each, IsElement, Which, noop, delete, create, install, delete_namespace, update, which, Form as HookForm, HookIs, HooksFor, IsTransaction}
+use Rattle.xo_object.specs.Transaction.{Each, IsElement, Which, noop, delete, create, install, delete_namespace, update}
+use Rattle.xo_object.specs.Transaction.{which, Form as HookForm, HookIs, HooksFor, IsTransaction}
 use Rattle.hk_reading.specs.Readings.{longest}
 use Rattle.hk_state.specs.Fees.{item_fee, code_fee}
 use Rattle.hk_items.specs.Needs.{CodesFit}

@@ -1,5 +1,6 @@
 -- How much the items of a change of hooks add to a reserve: at most two units each.
-use Rattle.std.proofs.Common.{◌≡◌, subst, refl, arith, ℕ, ◌+◌, ◌*◌, ◌≤◌, Bool, true, false, if◌then◌else◌, List, [], ◌∷◌, length, Option, Some, None}
+use Rattle.std.proofs.Common.{◌≡◌, subst, refl, arith, ℕ, ◌+◌, ◌*◌, ◌≤◌, Bool, true, false, if◌then◌else◌, List, []}
+use Rattle.std.proofs.Common.{◌∷◌, length, Option, Some, None}
 use Rattle.std.specs.Option.{unwrap_or}
 use Rattle.std.specs.FinMap.{get, insert, remove}
 use Rattle.hk_base.specs.declared.ids.AccountId.{AccountId}
@@ -20,7 +21,8 @@ use Rattle.hk_state.specs.Reserves.{reserve, units_of, units_in, own_units, is_o
 use Rattle.hk_state.specs.Sums.{sum, sum-insert, sum-remove}
 use Rattle.hk_draft.specs.Draft.{Draft, erased}
 use Rattle.hk_events.specs.Engine.{Checked}
-use Rattle.hk_events.specs.Items.{ItemEnd, leaves, stops, item_end, items_end, then_items, all_erased, keys_in, put_entry, created, defined, has_entry, is_occupied, updated}
+use Rattle.hk_events.specs.Items.{ItemEnd, leaves, stops, item_end, items_end, then_items, all_erased, keys_in}
+use Rattle.hk_events.specs.Items.{put_entry, created, defined, has_entry, is_occupied, updated}
 use Rattle.hk_items.specs.Checks.{checked_in}
 use Rattle.hk_items.specs.Endings.{plain}
 

@@ -1,5 +1,6 @@
 -- The entries of a namespace, by a walk over them that removes each.
-use Rattle.std.proofs.Common.{◌≡◌, ◌∙◌, ap, sym, subst, refl, arith, ℕ, suc, ◌<◌, Bool, true, false, ◌&&◌, if◌then◌else◌, cond, List, [], ◌∷◌, replicate, length, Option, Some, None}
+use Rattle.std.proofs.Common.{◌≡◌, ◌∙◌, ap, sym, subst, refl, arith, ℕ, suc, ◌<◌, Bool, true, false, ◌&&◌}
+use Rattle.std.proofs.Common.{if◌then◌else◌, cond, List, [], ◌∷◌, replicate, length, Option, Some, None}
 use Rattle.std.specs.List.{filter_map, cons_option}
 use Rattle.std.specs.declared.cmp.Ordering.{Ordering}
 use Rattle.std.specs.declared.cmp.Ordering.TheVariants.{Less, Equal, Greater}
@@ -166,7 +167,8 @@ module _ (owner : AccountId) (namespace : Hash256) where
       (if b then e ∷ passing (is_from (first_in owner namespace)) es else passing
       (is_from (first_in owner namespace)) es)) [
         | true ↦ λ is. ap (cons_option (key_in owner namespace e.0)) (from_first es)
-        | false ↦ λ fails. ap (λ o. cons_option o (in_entries owner namespace es)) (no_key_before e.0 fails) ∙ from_first es
+        | false ↦
+            λ fails. ap (λ o. cons_option o (in_entries owner namespace es)) (no_key_before e.0 fails) ∙ from_first es
       ] refl
 
   none_after : (k : Key) → is_from (first_in owner namespace) k ≡ true → is_in owner namespace k ≡ false →

@@ -1,5 +1,6 @@
 -- What lines do, by what they hold.
-use Rattle.std.proofs.Common.{◌≡◌, ℕ, Bool, true, false, if◌then◌else◌, List, ◌++◌, Option, Some, None, Result, IfOk, refl, ap, ◌∙◌}
+use Rattle.std.proofs.Common.{◌≡◌, ℕ, Bool, true, false, if◌then◌else◌, List, ◌++◌, Option, Some, None, Result, IfOk}
+use Rattle.std.proofs.Common.{refl, ap, ◌∙◌}
 use Rattle.hk_lines.specs.declared.rule.Rule.TheVariants as rule
 use Rattle.hk_lines.specs.declared.turned.Turned.{Turned}
 use Rattle.hk_lines.specs.declared.turned.Turned.TheVariants.{Goes, Wrong}

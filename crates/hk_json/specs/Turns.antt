@@ -1,5 +1,6 @@
 -- What the lines of `json` and `unjson` do (this project's own). Byte 32 is a space, 45 a dash and 10 the line feed.
-use Rattle.std.specs.Prelude.{ℕ, List, [], ◌∷◌, ◌++◌, drop, take, codes, Option, Some, None, Result, Ok, Err, if◌then◌else◌}
+use Rattle.std.specs.Prelude.{ℕ, List, [], ◌∷◌, ◌++◌, drop, take, codes, Option, Some, None, Result, Ok, Err}
+use Rattle.std.specs.Prelude.{if◌then◌else◌}
 use Rattle.std.specs.Str.{bytes_eq}
 use Rattle.serde_json.specs.Written.{compact_text}
 use Rattle.hk_lines.specs.Given.{Turn, goes, ends, wrong}

@@ -68,7 +68,8 @@ pub record SettledKept (e : Engine) (ledger now : LedgerValue) : Type 0 where
   pub good : IsGood e.reads_emitted now
   pub total : opening_total now ≡ opening_total ledger
 
-pub settled_kept : (e : Engine) (lawful : IsLawful e) (ns : List ℕ) (ledger : LedgerValue) → IsGood e.reads_emitted ledger →
+pub settled_kept : (e : Engine) (lawful : IsLawful e) (ns : List ℕ) (ledger : LedgerValue) →
+    IsGood e.reads_emitted ledger →
     SettledKept e ledger (settled_all e ledger ns).ledger
 settled_kept e lawful [] ledger good = record { good = good; total = refl }
 settled_kept e lawful (n ∷ ns) ledger good =

@@ -1,5 +1,6 @@
 -- The settlements of an opened ledger, one after the other.
-use Rattle.std.proofs.Common.{◌≡◌, ◌∙◌, ℕ, ◌+◌, ◌≤◌, ◌<◌, Bool, true, false, List, [], ◌∷◌, ◌++◌, arith, refl, sym, ap, subst, append_assoc, append-nil, Option, Some, None}
+use Rattle.std.proofs.Common.{◌≡◌, ◌∙◌, ℕ, ◌+◌, ◌≤◌, ◌<◌, Bool, true, false, List, [], ◌∷◌, ◌++◌, arith, refl, sym, ap}
+use Rattle.std.proofs.Common.{subst, append_assoc, append-nil, Option, Some, None}
 use Rattle.std.specs.declared.cmp.Ordering.{Ordering}
 use Rattle.std.specs.declared.cmp.Ordering.TheVariants.{Less, Equal, Greater}
 use Rattle.std.specs.Ordering.{nat_cmp, MatchOrdering}
@@ -15,7 +16,8 @@ use Rattle.hk_events.specs.Events.{Event}
 use Rattle.hk_events.specs.Good.{IsGood}
 use Rattle.hk_events.specs.Laws.{DueAt, LeastDue}
 use Rattle.hk_events.specs.Lawful.{IsLawful}
-use Rattle.hk_events.specs.Settled.{Opened, and_then, due, first_settled, is_due, numbers, settle_next, settled, settled_all}
+use Rattle.hk_events.specs.Settled.{Opened, and_then, due, first_settled, is_due, numbers, settle_next, settled}
+use Rattle.hk_events.specs.Settled.{settled_all}
 use Rattle.hk_events.proofs.Due.{Ascends, ascending, has, has_none, has_number}
 use Rattle.hk_events.proofs.Settling.{due_law, finds_due, finds_none}
 use Rattle.hk_settle.specs.Due.{IsNext, NoneFrom}
@@ -76,7 +78,8 @@ underway_first e start earlier = record { below = none_low start; ledger = refl;
 
 -- one more
 module _ (e : Engine) (lawful : IsLawful e) (start now : LedgerValue) (earlier all : List OutputLine) (from number : ℕ)
-    (good : IsGood e.reads_emitted now) (so : Underway e start now earlier all from) (next : IsNext now from number) where
+    (good : IsGood e.reads_emitted now) (so : Underway e start now earlier all from)
+    (next : IsNext now from number) where
   abbrev event : Event
   event = settled e now number
 

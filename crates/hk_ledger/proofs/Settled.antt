@@ -1,5 +1,6 @@
 -- What a settlement keeps, by rules with their laws.
-use Rattle.std.proofs.Common.{◌≡◌, ◌∙◌, ℕ, ◌+◌, ◌<◌, ◌≤◌, ◌^◌, Bool, true, false, if◌then◌else◌, List, [], sym, ap, arith, refl}
+use Rattle.std.proofs.Common.{◌≡◌, ◌∙◌, ℕ, ◌+◌, ◌<◌, ◌≤◌, ◌^◌, Bool, true, false, if◌then◌else◌, List, [], sym, ap}
+use Rattle.std.proofs.Common.{arith, refl}
 use Rattle.std.proofs.Common.{Option, Some, None, nat_lt}
 use Rattle.std.specs.FinMap.{get, remove, get-remove}
 use Rattle.hk_base.specs.declared.ids.AccountId.{AccountId}
@@ -24,7 +25,8 @@ use Rattle.hk_events.specs.Limits.{IsMeasured}
 use Rattle.hk_events.specs.Performed.{transaction}
 use Rattle.hk_events.specs.Results.{emitted}
 use Rattle.hk_events.specs.Settled as defined
-use Rattle.hk_events.specs.Settled.{answered, argument, called_back, expired, performed_as, settled, settled_entry, settlement, sender_at, without}
+use Rattle.hk_events.specs.Settled.{answered, argument, called_back, expired, performed_as, settled, settled_entry}
+use Rattle.hk_events.specs.Settled.{settlement, sender_at, without}
 use Rattle.hk_events.proofs.Applying.{queue_aside}
 use Rattle.hk_events.proofs.Emptying.{cut_none}
 use Rattle.hk_events.proofs.Queueing.{queue_below, queue_others}
@@ -147,12 +149,14 @@ module _ (rules : Rules) (lawful : IsLawful (engine_of rules)) (ledger : LedgerV
   abbrev event : Event
   event = settled (engine_of rules) ledger number
 
-  pub settled_holds : Holds reads_emitted ledger event (λ q. ⊥) (sender_at reads_emitted (get ledger.entries (key.Emitted number)))
+  pub settled_holds : Holds reads_emitted ledger event (λ q. ⊥)
+      (sender_at reads_emitted (get ledger.entries (key.Emitted number)))
   settled_holds = settled_law (engine_of rules) ledger number lawful whole.queue
 
   keeps : Keeps ledger event.ledger.entries
   keeps =
-      entry_keeps (engine_of rules) lawful ledger whole.none number whole.first (get ledger.entries (key.Emitted number))
+      entry_keeps (engine_of rules) lawful ledger whole.none number whole.first
+      (get ledger.entries (key.Emitted number))
 
   module _ (careful : IsCareful (engine_of rules)) (measured : IsMeasured (engine_of rules)) where
     stays : StaysSo (engine_of rules) ledger

@@ -46,7 +46,8 @@ performed_of m answer = record {
 pub record HoldsSettled (before : LedgerValue) (event : Event) : Type 0 where
   pub number : ℕ
   pub next : IsNext before 0 number
-  pub holds : Holds reads_emitted before event (λ q. ⊥) (sender_at reads_emitted (get before.entries (key.Emitted number)))
+  pub holds : Holds reads_emitted before event (λ q. ⊥)
+      (sender_at reads_emitted (get before.entries (key.Emitted number)))
 
 -- an answer is the settlement of the next emission that is due, or none is due and the ledger stays
 abbrev pub SettlesNext : Engine → LedgerValue → LedgerValue → Option Report → Type 0

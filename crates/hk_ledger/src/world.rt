@@ -75,7 +75,8 @@ impl World {
         &self.ledger
     }
 
-    /// The lines at the end: each account, Install, State entry and queued emission, and the sums of the balances and of
+    /// The lines at the end: each account, Install, State entry and queued emission, and the sums of the balances and
+    /// of
     /// the burnt fees.
     pub fn final_lines(&self, alloc: Global) -> Result<Items<OutputLine>, NoMemory>
         ensures lines { IfOk result (λ lines. lines ≡ final_lines self.now.ledger) }

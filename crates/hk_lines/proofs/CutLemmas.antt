@@ -1,5 +1,7 @@
 -- The lines of joined bytes are the joined lines.
-use Rattle.std.proofs.Common.{◌≡◌, ◌≢◌, Bor, Option, Some, None, MatchOption, unwrap_or, inl, inr, ℕ, ◌+◌, ◌≤◌, ◌==◌, Bool, true, false, if◌then◌else◌, List, [], ◌∷◌, ◌++◌, length, refl, sym, ap, ◌∙◌, arith, append_assoc}
+use Rattle.std.proofs.Common.{◌≡◌, ◌≢◌, Bor, Option, Some, None, MatchOption, unwrap_or, inl, inr, ℕ, ◌+◌, ◌≤◌, ◌==◌}
+use Rattle.std.proofs.Common.{Bool, true, false, if◌then◌else◌, List, [], ◌∷◌, ◌++◌, length, refl, sym, ap, ◌∙◌, arith}
+use Rattle.std.proofs.Common.{append_assoc}
 use Rattle.std.proofs.lemmas.Bool.{eqb-true, cases_eq}
 use Rattle.std.proofs.lemmas.Bool.Decides.{nat_tests}
 use Rattle.hk_lines.specs.Cut.{Cut, behind, whole, onto, cut, begun, joined, trim, CutsJoined}
@@ -39,7 +41,8 @@ byte_joins false byte front back = onto_joined byte front back
 pub cut_joined : CutsJoined
 cut_joined [] back = sym (begun_nothing (cut back))
 cut_joined (byte ∷ front) back =
-    ap (λ c. if byte == 10 then whole [] c else onto byte c) (cut_joined front back) ∙ byte_joins (byte == 10) byte (cut front) (cut back)
+    ap (λ c. if byte == 10 then whole [] c else onto byte c) (cut_joined front back)
+    ∙ byte_joins (byte == 10) byte (cut front) (cut back)
 
 -- the bytes that were cut
 abbrev pub uncut : Cut → List ℕ
@@ -55,7 +58,8 @@ trim_length (byte ∷ []) = one (byte == 13) byte where
   one : (test : Bool) (byte : ℕ) → length (byte ∷ []) ≤ length (if test then [] else byte ∷ []) + 1
   one true byte = omega arith
   one false byte = omega arith
-trim_length (byte ∷ next ∷ line) = let rest : length (next ∷ line) ≤ length (trim (next ∷ line)) + 1 = trim_length (next ∷ line) in omega (arith, rest)
+trim_length (byte ∷ next ∷ line) =
+    let rest : length (next ∷ line) ≤ length (trim (next ∷ line)) + 1 = trim_length (next ∷ line) in omega (arith, rest)
 
 -- a carriage return at the end is dropped
 trim_returned : (line : List ℕ) → trim (line ++ 13 ∷ []) ≡ line
@@ -69,9 +73,11 @@ trim_kept [] none = refl
 trim_kept (byte ∷ []) none =
     elim (cases_eq byte 13) [
       | inl return ↦ absurd (none [] (ap (λ b. b ∷ []) return))
-      | inr other ↦ let test : (byte == 13) ≡ false = grind (arith, nat_tests) in ap (λ t. if t then [] else byte ∷ []) test
+      | inr other ↦
+          let test : (byte == 13) ≡ false = grind (arith, nat_tests) in ap (λ t. if t then [] else byte ∷ []) test
     ]
-trim_kept (byte ∷ next ∷ line) none = ap (λ l. byte ∷ l) (trim_kept (next ∷ line) (λ front e. none (byte ∷ front) (ap (λ l. byte ∷ l) e)))
+trim_kept (byte ∷ next ∷ line) none =
+    ap (λ l. byte ∷ l) (trim_kept (next ∷ line) (λ front e. none (byte ∷ front) (ap (λ l. byte ∷ l) e)))
 
 -- a line whose suffix was taken off is trimmed
 pub trim_stripped : (stripped : Option (Bor (List ℕ))) (line : Bor (List ℕ)) →
@@ -86,7 +92,8 @@ uncut_onto : (byte : ℕ) (c : Cut) → uncut (onto byte c) ≡ byte ∷ uncut c
 uncut_onto byte (behind bytes) = refl
 uncut_onto byte (whole line more) = refl
 
-uncut_byte : (test : Bool) (byte : ℕ) (c : Cut) → (byte == 10) ≡ test → uncut (if test then whole [] c else onto byte c) ≡ byte ∷ uncut c
+uncut_byte : (test : Bool) (byte : ℕ) (c : Cut) → (byte == 10) ≡ test →
+    uncut (if test then whole [] c else onto byte c) ≡ byte ∷ uncut c
 uncut_byte true byte c h = let feed : byte ≡ 10 = eqb-true byte 10 h in ap (λ b. b ∷ uncut c) (sym feed)
 uncut_byte false byte c h = uncut_onto byte c
 

@@ -1,10 +1,13 @@
 -- What is due stays due.
-use Rattle.std.proofs.Common.{◌≡◌, ℕ, ◌+◌, ◌-◌, ◌<◌, ◌≤◌, nat_le, Bool, true, false, if◌then◌else◌, List, [], ◌++◌, length, take, refl, sym, ap, subst, ◌∙◌, inl, inr, arith, append_assoc, append-nil, length-append}
+use Rattle.std.proofs.Common.{◌≡◌, ℕ, ◌+◌, ◌-◌, ◌<◌, ◌≤◌, nat_le, Bool, true, false, if◌then◌else◌, List, [], ◌++◌}
+use Rattle.std.proofs.Common.{length, take, refl, sym, ap, subst, ◌∙◌, inl, inr, arith, append_assoc, append-nil}
+use Rattle.std.proofs.Common.{length-append}
 use Rattle.std.proofs.lemmas.Bool.Decides.{leb_tells, nat_tests}
 use Rattle.std.proofs.Math.Seq.{take-append-add}
 use Rattle.std.proofs.lemmas.List.{take-append-le, take_all}
 use Rattle.hk_lines.specs.Cut.{Cut, behind, whole, cut, begun, joined, trim, is_skipped}
-use Rattle.hk_lines.specs.Given.{Close, opened, full, Given, bad, Turn, goes, ends, wrong, after_turn, given_line, given_last, given_from, close_of, given, so_far, IsFront, StaysDue}
+use Rattle.hk_lines.specs.Given.{Close, opened, full, Given, bad, Turn, goes, ends, wrong, after_turn, given_line}
+use Rattle.hk_lines.specs.Given.{given_last, given_from, close_of, given, so_far, IsFront, StaysDue}
 use Rattle.hk_lines.specs.Numbers.{longest_line, endless_line}
 use Rattle.hk_lines.specs.declared.rule.Rule.TheVariants.{LineTooLong}
 use Rattle.hk_lines.proofs.CutLemmas.{cut_joined, trim_length}
@@ -22,7 +25,8 @@ front_after text front all is = (is.0, ap (λ t. text ++ t) is.1 ∙ sym (append
 
 module _ {S : Type 0} (turn : S → List ℕ → Turn S) where
   -- behind a line's turn
-  turn_front : (answer : Turn S) (number : ℕ) (early late : S → Given) → ((state : S) → IsFront (early state).text (late state).text) →
+  turn_front : (answer : Turn S) (number : ℕ) (early late : S → Given) →
+      ((state : S) → IsFront (early state).text (late state).text) →
       IsFront (after_turn turn answer number early).text (after_turn turn answer number late).text
   turn_front (goes state text) number early late h = front_after text (early state).text (late state).text (h state)
   turn_front (ends text status) number early late h = front_same text text refl
@@ -32,13 +36,16 @@ module _ {S : Type 0} (turn : S → List ℕ → Turn S) where
   tests_front : (short skipped : Bool) (answer : Turn S) (state : S) (number : ℕ) (early late : S → Given) →
       ((state : S) → IsFront (early state).text (late state).text) →
       IsFront
-      (if short then (if skipped then early state else after_turn turn answer number early) else bad number LineTooLong).text
-      (if short then (if skipped then late state else after_turn turn answer number late) else bad number LineTooLong).text
+      (if short then (if skipped then early state else after_turn turn answer number early)
+      else bad number LineTooLong).text
+      (if short then (if skipped then late state else after_turn turn answer number late)
+      else bad number LineTooLong).text
   tests_front true true answer state number early late h = h state
   tests_front true false answer state number early late h = turn_front answer number early late h
   tests_front false skipped answer state number early late h = front_same _ _ refl
 
-  line_front : (state : S) (number : ℕ) (line : List ℕ) (early late : S → Given) → ((state : S) → IsFront (early state).text (late state).text) →
+  line_front : (state : S) (number : ℕ) (line : List ℕ) (early late : S → Given) →
+      ((state : S) → IsFront (early state).text (late state).text) →
       IsFront (given_line turn state number line early).text (given_line turn state number line late).text
   line_front state number line early late h =
       tests_front (nat_le (length line) longest_line) (is_skipped line) (turn state line) state number early late h
@@ -72,8 +79,10 @@ module _ {S : Type 0} (turn : S → List ℕ → Turn S) where
       IsFront (given_from turn state number c opened).text (given_from turn state number (joined c next) close).text
   from_front (whole line more) next state number close =
       line_front state number (trim line) (λ state. given_from turn state (number + 1) more opened)
-      (λ state. given_from turn state (number + 1) (joined more next) close) (λ state. from_front more next state (number + 1) close)
-  from_front (behind bytes) next state number close = last_front (nat_le endless_line (length bytes)) state number bytes next close refl
+      (λ state. given_from turn state (number + 1) (joined more next) close)
+      (λ state. from_front more next state (number + 1) close)
+  from_front (behind bytes) next state number close =
+      last_front (nat_le endless_line (length bytes)) state number bytes next close refl
 
   -- at the limit nothing behind it is looked at
   pub given_full : (limit : ℕ) (start : S) (bytes : List ℕ) (close : Close) → limit ≤ length bytes →
@@ -108,8 +117,10 @@ module _ {S : Type 0} (turn : S → List ℕ → Turn S) where
       let sum : limit ≡ length front + (limit - length front) = omega arith in
       let taken : take limit (front ++ back) ≡ front ++ rest =
       ap (λ n. take n (front ++ back)) sum ∙ take-append-add front back (limit - length front) in
-      let cuts : cut (take limit (front ++ back)) ≡ joined (cut front) (cut rest) = ap cut taken ∙ cut_joined front rest in
-      let early : given_from turn start 1 (cut front) opened ≡ given turn limit start front opened = sym (given_short limit start front opened below) in
+      let cuts : cut (take limit (front ++ back)) ≡ joined (cut front) (cut rest) =
+      ap cut taken ∙ cut_joined front rest in
+      let early : given_from turn start 1 (cut front) opened ≡ given turn limit start front opened =
+      sym (given_short limit start front opened below) in
       let late : given_from turn start 1 (joined (cut front) (cut rest)) (close_of turn limit (front ++ back) close)
       ≡ given turn limit start (front ++ back) close
       = ap (λ c. given_from turn start 1 c (close_of turn limit (front ++ back) close)) (sym cuts) in

@@ -1,5 +1,6 @@
 -- What is held of lines that come in pieces.
-use Rattle.std.proofs.Common.{◌-◌, min, ◌≡◌, ◌≢◌, ◌<◌, ◌≤◌, ◌⊎◌, ℕ, ◌+◌, ◌==◌, false, if◌then◌else◌, List, [], ◌∷◌, ◌++◌, length, take, refl, sym, ap, subst, ◌∙◌, inl, inr, arith, append-nil, length-append}
+use Rattle.std.proofs.Common.{◌-◌, min, ◌≡◌, ◌≢◌, ◌<◌, ◌≤◌, ◌⊎◌, ℕ, ◌+◌, ◌==◌, false, if◌then◌else◌, List, [], ◌∷◌}
+use Rattle.std.proofs.Common.{◌++◌, length, take, refl, sym, ap, subst, ◌∙◌, inl, inr, arith, append-nil, length-append}
 use Rattle.std.proofs.lemmas.Bool.{cases_eq}
 use Rattle.std.proofs.lemmas.List.{append_cancel_right, take-take, length-take}
 use Rattle.hk_lines.specs.Cut.{Cut, behind, whole, cut, begun, joined, trim}
@@ -10,7 +11,8 @@ use Rattle.hk_lines.proofs.CutLemmas.{cut_joined, begun_nothing, trim_length, un
 -- ---- whatever the pieces
 
 -- a piece behind listed lines begins where the held bytes end
-listed_joined : (lines : List (List ℕ)) (held : List ℕ) (c : Cut) → joined (listed lines held) c ≡ joined (listed lines []) (begun held c)
+listed_joined : (lines : List (List ℕ)) (held : List ℕ) (c : Cut) →
+    joined (listed lines held) c ≡ joined (listed lines []) (begun held c)
 listed_joined [] held c = sym (begun_nothing (begun held c))
 listed_joined (line ∷ lines) held c = ap (whole line) (listed_joined lines held c)
 
@@ -19,7 +21,8 @@ listed_behind : (lines : List (List ℕ)) (held : List ℕ) → joined (listed l
 listed_behind [] held = refl
 listed_behind (line ∷ lines) held = ap (whole line) (listed_behind lines held)
 
-listed_line : (lines : List (List ℕ)) (line : List ℕ) → joined (listed lines []) (whole line (behind [])) ≡ listed (lines ++ line ∷ []) []
+listed_line : (lines : List (List ℕ)) (line : List ℕ) →
+    joined (listed lines []) (whole line (behind [])) ≡ listed (lines ++ line ∷ []) []
 listed_line [] line = refl
 listed_line (first ∷ lines) line = ap (whole first) (listed_line lines line)
 
@@ -66,9 +69,11 @@ cuts_pieces_law = record {
 -- ---- the first line feed of a piece
 
 -- one more byte, which is no line feed
-pub cut_more : (bytes : List ℕ) (byte : ℕ) → cut bytes ≡ behind bytes → (byte == 10) ≡ false → cut (bytes ++ byte ∷ []) ≡ behind (bytes ++ byte ∷ [])
+pub cut_more : (bytes : List ℕ) (byte : ℕ) → cut bytes ≡ behind bytes → (byte == 10) ≡ false →
+    cut (bytes ++ byte ∷ []) ≡ behind (bytes ++ byte ∷ [])
 cut_more bytes byte h other =
-    let one : cut (byte ∷ []) ≡ behind (byte ∷ []) = ap (λ t. if t then whole [] (behind []) else behind (byte ∷ [])) other in
+    let one : cut (byte ∷ []) ≡ behind (byte ∷ []) =
+    ap (λ t. if t then whole [] (behind []) else behind (byte ∷ [])) other in
     held_piece bytes (byte ∷ []) h ∙ ap (begun bytes) one
 
 -- one more byte, which is the line feed
@@ -86,7 +91,8 @@ ended_is : (part line : List ℕ) → cut part ≡ whole line (behind []) → li
 ended_is part line h = sym (ap uncut h) ∙ uncut_cut part
 
 -- held bytes and a part that leaves no line feed behind it
-pub held_fed : (held part : List ℕ) → IsUnfinished held → CutsOnce part → length held + length part ≤ endless_line → IsHeld (held ++ part)
+pub held_fed : (held part : List ℕ) → IsUnfinished held → CutsOnce part → length held + length part ≤ endless_line →
+    IsHeld (held ++ part)
 held_fed held part is (inl none) room =
     let cuts : cut (held ++ part) ≡ behind (held ++ part) = held_piece held part is.0 ∙ ap (begun held) none in
     let long : length (held ++ part) ≡ length held + length part = length-append held part in
@@ -114,11 +120,13 @@ pub record Feeds (held piece : List ℕ) (room count : ℕ) : Type 0 where
   pub room_is : room ≡ min (2097154 - length held) (length piece)
   pub most : count ≤ length (take room piece)
   pub cuts :
-      ((cut (take count (take room piece)) ≡ behind (take count (take room piece))) × (count ≡ length (take room piece)))
+      ((cut (take count (take room piece)) ≡ behind (take count (take room piece)))
+      × (count ≡ length (take room piece)))
       ⊎ ((line : List ℕ) × (cut (take count (take room piece)) ≡ whole line (behind [])))
 
 -- the part within the room is the part of the piece
-part_same : (held piece : List ℕ) (room count : ℕ) → Feeds held piece room count → take count (take room piece) ≡ take count piece
+part_same : (held piece : List ℕ) (room count : ℕ) → Feeds held piece room count →
+    take count (take room piece) ≡ take count piece
 part_same held piece room count h = take-take count room piece (omega (arith, h.most, length-take room piece))
 
 part_cuts : (held piece : List ℕ) (room count : ℕ) → Feeds held piece room count → CutsOnce (take count piece)
@@ -127,20 +135,24 @@ part_cuts held piece room count h =
     (elim h.cuts as (λ _. CutsOnce (take count (take room piece))) [ inl none ↦ inl none.0 | inr line ↦ inr line ])
 
 -- what is held then
-pub feeds_held : (held piece : List ℕ) (room count : ℕ) → Feeds held piece room count → IsHeld (held ++ take count piece)
+pub feeds_held : (held piece : List ℕ) (room count : ℕ) → Feeds held piece room count →
+    IsHeld (held ++ take count piece)
 feeds_held held piece room count h =
     held_fed held (take count piece) h.unfinished (part_cuts held piece room count h)
     (omega (arith, h.room_is, h.most, h.unfinished.1, length-take room piece, length-take count piece))
 
 -- a piece of which not all is taken ends a line
-pub feeds_all : (held piece : List ℕ) (room count : ℕ) → Feeds held piece room count → IsUnfinished (held ++ take count piece) → count ≡ length piece
+pub feeds_all : (held piece : List ℕ) (room count : ℕ) → Feeds held piece room count →
+    IsUnfinished (held ++ take count piece) → count ≡ length piece
 feeds_all held piece room count h unfinished =
     let all = fed_all held (take count piece) h.unfinished (part_cuts held piece room count h) unfinished in
     elim h.cuts [
       | inl none ↦
-          omega (arith, none.1, all.1, h.room_is, h.most, h.unfinished.1, length-take room piece, length-take count piece)
+          omega
+          (arith, none.1, all.1, h.room_is, h.most, h.unfinished.1, length-take room piece, length-take count piece)
       | inr line ↦
-          let is : cut (take count piece) ≡ whole line.0 (behind []) = subst (λ b. cut b ≡ whole line.0 (behind [])) (part_same held piece room count h) line.1 in
+          let is : cut (take count piece) ≡ whole line.0 (behind []) =
+          subst (λ b. cut b ≡ whole line.0 (behind [])) (part_same held piece room count h) line.1 in
           cc (is, all.0)
     ]
 
@@ -163,12 +175,14 @@ held_line held line (inr (inr (other, (is, short)))) e =
     (is ∙ ap (λ l. whole l (behind [])) same, subst (λ l. length l < endless_line) same short)
 
 -- held bytes that don't end in one are endless or unfinished
-pub held_endless : (held : List ℕ) → IsHeld held → ((front : List ℕ) → held ≢ front ++ 10 ∷ []) → length held ≡ endless_line → IsEndless held
+pub held_endless : (held : List ℕ) → IsHeld held → ((front : List ℕ) → held ≢ front ++ 10 ∷ []) →
+    length held ≡ endless_line → IsEndless held
 held_endless held (inl unfinished) none all = absurd (omega (arith, unfinished.1, all))
 held_endless held (inr (inl is)) none all = is
 held_endless held (inr (inr (line, (is, short)))) none all = absurd (none line (sym (ended_is held line is)))
 
-pub held_unfinished : (held : List ℕ) → IsHeld held → ((front : List ℕ) → held ≢ front ++ 10 ∷ []) → (length held ≡ endless_line → ⊥) → IsUnfinished held
+pub held_unfinished : (held : List ℕ) → IsHeld held → ((front : List ℕ) → held ≢ front ++ 10 ∷ []) →
+    (length held ≡ endless_line → ⊥) → IsUnfinished held
 held_unfinished held (inl unfinished) none other = unfinished
 held_unfinished held (inr (inl is)) none other = absurd (other is.1)
 held_unfinished held (inr (inr (line, (is, short)))) none other = absurd (none line (sym (ended_is held line is)))

@@ -1,5 +1,6 @@
 -- Which bytes words spell in hex.
-use Rattle.std.proofs.Common.{◌≡◌, ℕ, ◌*◌, ◌/◌, ◌%◌, ◌==◌, true, false, List, [], ◌∷◌, length, Option, Some, None, Result, Ok, Err, refl, sym, ◌∙◌, arith, option_and_then, eq-eqb, inl, inr}
+use Rattle.std.proofs.Common.{◌≡◌, ℕ, ◌*◌, ◌/◌, ◌%◌, ◌==◌, true, false, List, [], ◌∷◌, length, Option, Some, None}
+use Rattle.std.proofs.Common.{Result, Ok, Err, refl, sym, ◌∙◌, arith, option_and_then, eq-eqb, inl, inr}
 use Rattle.std.proofs.lemmas.Bool.{cases_eq}
 use Rattle.std.proofs.lemmas.Bool.Decides.{nat_tests}
 use Rattle.std.specs.Result.{result_ok}
@@ -36,7 +37,8 @@ all_sized text size (Some bytes) h half =
     rw test refl
 
 -- and where it hasn't, they aren't
-none_sized : (text : List ℕ) (size : ℕ) (found : Option (List ℕ)) → hex_bytes text ≡ found → (length text / 2 ≡ size → ⊥) →
+none_sized : (text : List ℕ) (size : ℕ) (found : Option (List ℕ)) → hex_bytes text ≡ found →
+    (length text / 2 ≡ size → ⊥) →
     None ≡ option_and_then (sized size) found
 none_sized text size None h half = refl
 none_sized text size (Some bytes) h half =

@@ -1,5 +1,7 @@
 -- Words are read as the line that they spell.
-use Rattle.std.proofs.Common.{◌≡◌, ◌≤◌, ◌⊎◌, ◌==◌, inl, inr, ℕ, Bool, true, false, if◌then◌else◌, List, [], ◌∷◌, length, codes, Option, Some, None, Ok, Err, option_and_then, unwrap_or, refl, sym, ap, subst, ◌∙◌, arith, eq-eqb}
+use Rattle.std.proofs.Common.{◌≡◌, ◌≤◌, ◌⊎◌, ◌==◌, inl, inr, ℕ, Bool, true, false, if◌then◌else◌, List, [], ◌∷◌, length}
+use Rattle.std.proofs.Common.{codes, Option, Some, None, Ok, Err, option_and_then, unwrap_or, refl, sym, ap, subst, ◌∙◌}
+use Rattle.std.proofs.Common.{arith, eq-eqb}
 use Rattle.std.proofs.lemmas.Bool.{eqb-true}
 use Rattle.std.proofs.lemmas.Bool.Decides.{nat_tests}
 use Rattle.std.proofs.lemmas.Slice.Eq.{bytes_eq-Decides}
@@ -11,7 +13,8 @@ use Rattle.hk_base.specs.declared.ids.AccountId.{AccountId}
 use Rattle.hk_base.specs.declared.ids.Hash256.{Hash256}
 use Rattle.hk_lines.specs.Numbers.{most_drops}
 use Rattle.hk_lines.specs.Words.{number_of, sized, some_bytes, some_bytes_of, sized_bytes_of}
-use Rattle.hk_lines.specs.InputForms.{id_of, hash_of, account_of, ledger_of, verdict_of, tx_of, hook_of, end_of, shaped, words_read}
+use Rattle.hk_lines.specs.InputForms.{id_of, hash_of, account_of, ledger_of, verdict_of, tx_of, hook_of, end_of, shaped}
+use Rattle.hk_lines.specs.InputForms.{words_read}
 use Rattle.hk_lines.specs.Spelling.{Spells, SpellsBytes, verdict_word, IsNamed, ReadsSpelled, ReadsNamed, ReadsShaped}
 use Rattle.hk_lines.specs.declared.input_line.InputLine.{InputLine}
 use Rattle.hk_lines.specs.declared.input_line.InputLine.TheVariants.{Account, Ledger, Tx, Hook, End}
@@ -19,32 +22,21 @@ use Rattle.hk_lines.specs.declared.line_fault.LineFault.TheVariants.{BadWord, Ba
 use Rattle.hk_lines.specs.declared.verdict.Verdict.{Verdict}
 use Rattle.hk_lines.specs.declared.verdict.Verdict.TheVariants.{Good, Bad}
 use Rattle.hk_lines.proofs.Numerals.{some_if, number_is, number_has}
-
--- ---- options
-
--- two steps that gave a value
-and_then_some : {A B : Type 0} (next : A → Option B) (first : Option A) (last : B) → option_and_then next first ≡ Some last →
-    (value : A) × (first ≡ Some value) × (next value ≡ Some last)
-and_then_some next (Some value) last h = (value, refl, h)
-and_then_some next None last h = cc h
-
--- a value that was made of another
-map_some : {A B : Type 0} (make : A → B) (first : Option A) (last : B) → option_map make first ≡ Some last →
-    (value : A) × (first ≡ Some value) × (make value ≡ last)
-map_some make (Some value) last h = (value, refl, cc h)
-map_some make None last h = cc h
+use Rattle.hk_base.proofs.Options.{and_then_some, map_some}
 
 -- ---- bytes
 
 -- a word has so many bytes exactly where it spells so many
-sized_is : (size : ℕ) (word bytes : List ℕ) → sized_bytes_of size word ≡ Some bytes → SpellsBytes bytes word × (length bytes ≡ size)
+sized_is : (size : ℕ) (word bytes : List ℕ) → sized_bytes_of size word ≡ Some bytes →
+    SpellsBytes bytes word × (length bytes ≡ size)
 sized_is size word bytes h =
     let parts = and_then_some (sized size) (hex_bytes word) bytes h in
     let tests = some_if (length parts.0 == size) parts.0 bytes parts.2 in
     let long : length parts.0 ≡ size = eqb-true (length parts.0) size tests.0 in
     (parts.1 ∙ ap Some tests.1, sym (ap length tests.1) ∙ long)
 
-sized_has : (size : ℕ) (word bytes : List ℕ) → SpellsBytes bytes word → length bytes ≡ size → sized_bytes_of size word ≡ Some bytes
+sized_has : (size : ℕ) (word bytes : List ℕ) → SpellsBytes bytes word → length bytes ≡ size →
+    sized_bytes_of size word ≡ Some bytes
 sized_has size word bytes h long =
     let test : (length bytes == size) ≡ true = eq-eqb (length bytes) size long in
     rw (h, test) refl
@@ -80,10 +72,12 @@ hash_is word hash h =
     (subst (λ bs. SpellsBytes bs word) same spelled.0, subst (λ bs. length bs ≡ 32) same spelled.1)
 
 hash_has : (word : List ℕ) (hash : Hash256) → SpellsBytes hash.0 word → length hash.0 ≡ 32 → hash_of word ≡ Some hash
-hash_has word hash h long = let bytes : sized_bytes_of 32 word ≡ Some hash.0 = sized_has 32 word hash.0 h long in rw bytes refl
+hash_has word hash h long =
+    let bytes : sized_bytes_of 32 word ≡ Some hash.0 = sized_has 32 word hash.0 h long in rw bytes refl
 
 -- a word is a verdict exactly where it is the verdict's
-verdict_is : (word : List ℕ) (verdict : Verdict) (good bad : Bool) → bytes_eq word (codes "good") ≡ good → bytes_eq word (codes "bad") ≡ bad →
+verdict_is : (word : List ℕ) (verdict : Verdict) (good bad : Bool) → bytes_eq word (codes "good") ≡ good →
+    bytes_eq word (codes "bad") ≡ bad →
     (if good then Some Good else if bad then Some Bad else None) ≡ Some verdict → word ≡ verdict_word verdict
 verdict_is word verdict true bad is_good is_bad h =
     (bytes_eq-Decides word (codes "good")).0 is_good ∙ ap (λ v. unwrap_or (option_map verdict_word v) []) h
@@ -97,7 +91,8 @@ verdict_has Bad = refl
 
 -- ---- forms
 
-account_spells : (parts : List (List ℕ)) (line : InputLine) → account_of parts ≡ Some line → Spells line (codes "account" ∷ parts)
+account_spells : (parts : List (List ℕ)) (line : InputLine) → account_of parts ≡ Some line →
+    Spells line (codes "account" ∷ parts)
 account_spells [] line h = cc h
 account_spells (first ∷ []) line h = cc h
 account_spells (first ∷ second ∷ []) line h = cc h
@@ -120,7 +115,8 @@ account_spells (first ∷ second ∷ third ∷ []) line h =
           ∙ ap (λ w. codes "account" ∷ first ∷ decimal balance.0 ∷ w ∷ []) sequence_is.0,
     )
 
-ledger_spells : (parts : List (List ℕ)) (line : InputLine) → ledger_of parts ≡ Some line → Spells line (codes "ledger" ∷ parts)
+ledger_spells : (parts : List (List ℕ)) (line : InputLine) → ledger_of parts ≡ Some line →
+    Spells line (codes "ledger" ∷ parts)
 ledger_spells [] line h = cc h
 ledger_spells (first ∷ []) line h = cc h
 ledger_spells (first ∷ second ∷ []) line h = cc h
@@ -155,7 +151,8 @@ tx_spells (first ∷ second ∷ []) line h =
     subst (λ l. Spells l (codes "tx" ∷ first ∷ second ∷ [])) blob.2
     (second, spelled.0, spelled.1, ap (λ w. codes "tx" ∷ w ∷ second ∷ []) word)
 
-hook_spells : (parts : List (List ℕ)) (line : InputLine) → hook_of parts ≡ Some line → Spells line (codes "hook" ∷ parts)
+hook_spells : (parts : List (List ℕ)) (line : InputLine) → hook_of parts ≡ Some line →
+    Spells line (codes "hook" ∷ parts)
 hook_spells [] line h = cc h
 hook_spells (first ∷ second ∷ parts) line h = cc h
 hook_spells (first ∷ []) line h =
@@ -172,7 +169,9 @@ end_spells (first ∷ parts) line h = cc h
 -- one of five tests holds, or the last answer comes
 five : {A : Type 0} (t u v w x : Bool) (a b c d e other r : A) →
     (if t then a else if u then b else if v then c else if w then d else if x then e else other) ≡ r →
-    ((t ≡ true) × (a ≡ r)) ⊎ (((u ≡ true) × (b ≡ r)) ⊎ (((v ≡ true) × (c ≡ r)) ⊎ (((w ≡ true) × (d ≡ r)) ⊎ (((x ≡ true) × (e ≡ r)) ⊎ (other ≡ r)))))
+    ((t ≡ true) × (a ≡ r))
+    ⊎ (((u ≡ true) × (b ≡ r))
+    ⊎ (((v ≡ true) × (c ≡ r)) ⊎ (((w ≡ true) × (d ≡ r)) ⊎ (((x ≡ true) × (e ≡ r)) ⊎ (other ≡ r)))))
 five true u v w x a b c d e other r h = inl (refl, h)
 five false true v w x a b c d e other r h = inr (inl (refl, h))
 five false false true w x a b c d e other r h = inr (inr (inl (refl, h)))
@@ -186,8 +185,10 @@ named word name test = (bytes_eq-Decides word name).0 test
 
 -- the words of a form and what they are read as, or a bad word
 pub data Form (words : List (List ℕ)) : Type 0 where
-  account : (parts : List (List ℕ)) → words ≡ codes "account" ∷ parts → words_read words ≡ shaped (account_of parts) → Form words
-  ledger : (parts : List (List ℕ)) → words ≡ codes "ledger" ∷ parts → words_read words ≡ shaped (ledger_of parts) → Form words
+  account : (parts : List (List ℕ)) → words ≡ codes "account" ∷ parts → words_read words ≡ shaped (account_of parts) →
+      Form words
+  ledger : (parts : List (List ℕ)) → words ≡ codes "ledger" ∷ parts → words_read words ≡ shaped (ledger_of parts) →
+      Form words
   tx : (parts : List (List ℕ)) → words ≡ codes "tx" ∷ parts → words_read words ≡ shaped (tx_of parts) → Form words
   hook : (parts : List (List ℕ)) → words ≡ codes "hook" ∷ parts → words_read words ≡ shaped (hook_of parts) → Form words
   end : (parts : List (List ℕ)) → words ≡ codes "end" ∷ parts → words_read words ≡ shaped (end_of parts) → Form words
@@ -197,8 +198,10 @@ form : (words : List (List ℕ)) → Form words
 form [] = other refl
 form (word ∷ parts) =
     elim (five
-    (bytes_eq word (codes "account")) (bytes_eq word (codes "ledger")) (bytes_eq word (codes "tx")) (bytes_eq word (codes "hook"))
-    (bytes_eq word (codes "end")) (shaped (account_of parts)) (shaped (ledger_of parts)) (shaped (tx_of parts)) (shaped (hook_of parts))
+    (bytes_eq word (codes "account")) (bytes_eq word (codes "ledger")) (bytes_eq word (codes "tx"))
+    (bytes_eq word (codes "hook"))
+    (bytes_eq word (codes "end")) (shaped (account_of parts)) (shaped (ledger_of parts)) (shaped (tx_of parts))
+    (shaped (hook_of parts))
     (shaped (end_of parts)) (Err BadWord) (words_read (word ∷ parts)) refl) [
       | inl is ↦ account parts (ap (λ w. w ∷ parts) (named word _ is.0)) (sym is.1)
       | inr more ↦ elim more [
@@ -227,7 +230,8 @@ shaped_word (Some found) h = cc h
 shaped_word None h = cc h
 
 -- a form's answer is a line or a bad shape
-shaped_cases : (found : Option InputLine) → ((line : InputLine) × (shaped found ≡ Ok line)) ⊎ (shaped found ≡ Err BadShape)
+shaped_cases : (found : Option InputLine) →
+    ((line : InputLine) × (shaped found ≡ Ok line)) ⊎ (shaped found ≡ Err BadShape)
 shaped_cases (Some line) = inl (line, refl)
 shaped_cases None = inr refl
 
@@ -257,34 +261,43 @@ account_reads : (first second third : List ℕ) (id : AccountId) (balance sequen
     number_of 0 most_drops second ≡ Some balance → number_of 1 4294967294 third ≡ Some sequence →
     words_read (codes "account" ∷ first ∷ second ∷ third ∷ []) ≡ Ok (Account id balance sequence)
 account_reads first second third id balance sequence e f g =
-    ap shaped (three (λ a b c. Account a b c) (id_of first) (number_of 0 most_drops second) (number_of 1 4294967294 third) id balance sequence e f g)
+    ap shaped (three (λ a b c. Account a b c) (id_of first) (number_of 0 most_drops second)
+    (number_of 1 4294967294 third) id balance sequence e f g)
 
 ledger_reads : (first second third : List ℕ) (seq time : ℕ) (hash : Hash256) → number_of 1 4294967000 first ≡ Some seq →
     number_of 0 4294967295 second ≡ Some time → hash_of third ≡ Some hash →
     words_read (codes "ledger" ∷ first ∷ second ∷ third ∷ []) ≡ Ok (Ledger seq time hash)
 ledger_reads first second third seq time hash e f g =
-    ap shaped (three (λ a b c. Ledger a b c) (number_of 1 4294967000 first) (number_of 0 4294967295 second) (hash_of third) seq time hash e f g)
+    ap shaped (three (λ a b c. Ledger a b c) (number_of 1 4294967000 first) (number_of 0 4294967295 second)
+    (hash_of third) seq time hash e f g)
 
-tx_reads : (first second : List ℕ) (verdict : Verdict) (blob : List ℕ) → verdict_of first ≡ Some verdict → some_bytes_of second ≡ Some blob →
+tx_reads : (first second : List ℕ) (verdict : Verdict) (blob : List ℕ) → verdict_of first ≡ Some verdict →
+    some_bytes_of second ≡ Some blob →
     words_read (codes "tx" ∷ first ∷ second ∷ []) ≡ Ok (Tx verdict blob)
-tx_reads first second verdict blob e f = ap shaped (two (λ a b. Tx a b) (verdict_of first) (some_bytes_of second) verdict blob e f)
+tx_reads first second verdict blob e f =
+    ap shaped (two (λ a b. Tx a b) (verdict_of first) (some_bytes_of second) verdict blob e f)
 
-hook_reads : (first code : List ℕ) → some_bytes_of first ≡ Some code → words_read (codes "hook" ∷ first ∷ []) ≡ Ok (Hook code)
+hook_reads : (first code : List ℕ) → some_bytes_of first ≡ Some code →
+    words_read (codes "hook" ∷ first ∷ []) ≡ Ok (Hook code)
 hook_reads first code e = ap (λ found. shaped (option_map (λ c. Hook c) found)) e
 
 spelled_reads : (words : List (List ℕ)) (line : InputLine) → Spells line words → words_read words ≡ Ok line
 spelled_reads words (Account id balance sequence) h =
     let first : id_of h.0 ≡ Some id = id_has h.0 id h.1 h.2 in
-    let second : number_of 0 most_drops (decimal balance) ≡ Some balance = number_has 0 most_drops balance (omega arith) (omega arith) h.3 in
-    let third : number_of 1 4294967294 (decimal sequence) ≡ Some sequence = number_has 1 4294967294 sequence (omega arith) h.4 h.5 in
+    let second : number_of 0 most_drops (decimal balance) ≡ Some balance =
+    number_has 0 most_drops balance (omega arith) (omega arith) h.3 in
+    let third : number_of 1 4294967294 (decimal sequence) ≡ Some sequence =
+    number_has 1 4294967294 sequence (omega arith) h.4 h.5 in
     ap words_read h.6 ∙ account_reads h.0 (decimal balance) (decimal sequence) id balance sequence first second third
 spelled_reads words (Ledger seq time last_hash) h =
     let first : number_of 1 4294967000 (decimal seq) ≡ Some seq = number_has 1 4294967000 seq (omega arith) h.3 h.4 in
-    let second : number_of 0 4294967295 (decimal time) ≡ Some time = number_has 0 4294967295 time (omega arith) (omega arith) h.5 in
+    let second : number_of 0 4294967295 (decimal time) ≡ Some time =
+    number_has 0 4294967295 time (omega arith) (omega arith) h.5 in
     let third : hash_of h.0 ≡ Some last_hash = hash_has h.0 last_hash h.1 h.2 in
     ap words_read h.6 ∙ ledger_reads (decimal seq) (decimal time) h.0 seq time last_hash first second third
 spelled_reads words (Tx verdict blob) h =
-    ap words_read h.3 ∙ tx_reads (verdict_word verdict) h.0 verdict blob (verdict_has verdict) (some_has h.0 blob h.1 h.2)
+    ap words_read h.3
+    ∙ tx_reads (verdict_word verdict) h.0 verdict blob (verdict_has verdict) (some_has h.0 blob h.1 h.2)
 spelled_reads words (Hook code) h = ap words_read h.3 ∙ hook_reads h.0 code (some_has h.0 code h.1 h.2)
 spelled_reads words End h = ap words_read h
 
@@ -294,16 +307,21 @@ reads_spelled_law words line = (read_spells words line, spelled_reads words line
 -- words that begin with a name aren't a bad word
 named_reads : (words : List (List ℕ)) → IsNamed words → words_read words ≡ Err BadWord → ⊥
 named_reads [] is h = is
-named_reads (word ∷ parts) (inl e) h = shaped_word (account_of parts) (subst (λ w. words_read (w ∷ parts) ≡ Err BadWord) e h)
-named_reads (word ∷ parts) (inr (inl e)) h = shaped_word (ledger_of parts) (subst (λ w. words_read (w ∷ parts) ≡ Err BadWord) e h)
-named_reads (word ∷ parts) (inr (inr (inl e))) h = shaped_word (tx_of parts) (subst (λ w. words_read (w ∷ parts) ≡ Err BadWord) e h)
+named_reads (word ∷ parts) (inl e) h =
+    shaped_word (account_of parts) (subst (λ w. words_read (w ∷ parts) ≡ Err BadWord) e h)
+named_reads (word ∷ parts) (inr (inl e)) h =
+    shaped_word (ledger_of parts) (subst (λ w. words_read (w ∷ parts) ≡ Err BadWord) e h)
+named_reads (word ∷ parts) (inr (inr (inl e))) h =
+    shaped_word (tx_of parts) (subst (λ w. words_read (w ∷ parts) ≡ Err BadWord) e h)
 named_reads (word ∷ parts) (inr (inr (inr (inl e)))) h =
     shaped_word (hook_of parts) (subst (λ w. words_read (w ∷ parts) ≡ Err BadWord) e h)
 named_reads (word ∷ parts) (inr (inr (inr (inr e)))) h =
     shaped_word (end_of parts) (subst (λ w. words_read (w ∷ parts) ≡ Err BadWord) e h)
 
 -- the words of a form are named, and read as its parts are
-form_named : (words : List (List ℕ)) → (words_read words ≡ Err BadWord) ⊎ (IsNamed words × ((found : Option InputLine) × (words_read words ≡ shaped found)))
+form_named : (words : List (List ℕ)) →
+    (words_read words ≡ Err BadWord)
+    ⊎ (IsNamed words × ((found : Option InputLine) × (words_read words ≡ shaped found)))
 form_named words =
     elim (form words) [
       | account parts e is ↦ inr (subst IsNamed (sym e) (inl refl), (account_of parts, is))
@@ -323,7 +341,8 @@ reads_named_law words = (λ h is. named_reads words is h, unnamed_reads words)
 bad_shape_named : (words : List (List ℕ)) → words_read words ≡ Err BadShape → IsNamed words
 bad_shape_named words h = elim (form_named words) [ inl bad ↦ cc (bad, h) | inr named ↦ named.0 ]
 
-unspelled_reads : (words : List (List ℕ)) → IsNamed words → ((line : InputLine) → Spells line words → ⊥) → words_read words ≡ Err BadShape
+unspelled_reads : (words : List (List ℕ)) → IsNamed words → ((line : InputLine) → Spells line words → ⊥) →
+    words_read words ≡ Err BadShape
 unspelled_reads words is none =
     elim (form_named words) [
       | inl bad ↦ absurd (named_reads words is bad)
@@ -335,6 +354,9 @@ unspelled_reads words is none =
 
 pub reads_shaped_law : ReadsShaped
 reads_shaped_law words = (
-  λ h. (bad_shape_named words h, λ line spelled. let read : words_read words ≡ Ok line = spelled_reads words line spelled in cc (read, h)),
+  λ h. (
+    bad_shape_named words h,
+    λ line spelled. let read : words_read words ≡ Ok line = spelled_reads words line spelled in cc (read, h),
+  ),
   λ is. unspelled_reads words is.0 is.1,
 )

@@ -1,4 +1,5 @@
--- Bytes that are cut into lines (this project's own). Byte 10 is the line feed, 13 the carriage return and 35 the character `#`.
+-- Bytes that are cut into lines (this project's own). Byte 10 is the line feed, 13 the carriage return and 35 the
+-- character `#`.
 use Rattle.std.specs.Prelude.{◌≡◌, ℕ, ◌==◌, Bool, true, if◌then◌else◌, List, [], ◌∷◌, ◌++◌}
 
 -- the lines that a line feed ends, each without it, and the bytes behind the last

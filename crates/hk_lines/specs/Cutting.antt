@@ -56,7 +56,8 @@ pub record EndsTooLong (lines : List (List ℕ)) (bytes : List ℕ) : Type 0 whe
   pub cuts : cut bytes ≡ joined (listed lines []) rest
   pub long : IsTooLong rest
 
--- the lines and the rest of pieces are those of the joined bytes: a piece goes on the held bytes, and where a line is whole
+-- the lines and the rest of pieces are those of the joined bytes: a piece goes on the held bytes, and where a line is
+-- whole
 -- it is the next; where the held bytes are endless the next line is too long, whatever comes behind them
 pub record CutsPieces : Type 0 where
   pub nothing : IsCut [] [] []

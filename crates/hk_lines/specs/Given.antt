@@ -1,10 +1,12 @@
 -- What a command gives for bytes of input: the printed text and the status (this project's own).
-use Rattle.std.specs.Prelude.{◌≡◌, ℕ, ◌+◌, nat_le, if◌then◌else◌, List, [], ◌∷◌, ◌++◌, length, take, codes, Option, Some, None}
+use Rattle.std.specs.Prelude.{◌≡◌, ℕ, ◌+◌, nat_le, if◌then◌else◌, List, [], ◌∷◌, ◌++◌, length, take, codes, Option}
+use Rattle.std.specs.Prelude.{Some, None}
 use Rattle.std.specs.Fmt.{decimal}
 use Rattle.hk_lines.specs.Cut.{Cut, behind, whole, cut, trim, is_skipped}
 use Rattle.hk_lines.specs.Numbers.{longest_line, endless_line}
 use Rattle.hk_lines.specs.declared.rule.Rule.{Rule}
-use Rattle.hk_lines.specs.declared.rule.Rule.TheVariants.{LineTooLong, BadWord, BadShape, BadOrder, RepeatedAccount, Total, NoEnd}
+use Rattle.hk_lines.specs.declared.rule.Rule.TheVariants.{LineTooLong, BadWord, BadShape, BadOrder, RepeatedAccount}
+use Rattle.hk_lines.specs.declared.rule.Rule.TheVariants.{Total, NoEnd}
 use Rattle.hk_lines.specs.declared.rule.Rule.TheVariants.{Object, JsonText, JsonKey, JsonValue, JsonDeep}
 use Rattle.hk_lines.specs.declared.status.Status.{Status}
 use Rattle.hk_lines.specs.declared.status.Status.TheVariants.{BadInput, TooLong}
@@ -51,7 +53,8 @@ bad number rule = record { text = bad_text number rule; status = Some BadInput }
 abbrev pub too_long : Given
 too_long = record { text = codes "too long" ++ 10 ∷ []; status = Some TooLong }
 
--- what a line does: it is right and leaves a state and an output, or it ends the lines with an output and a status, or it is wrong
+-- what a line does: it is right and leaves a state and an output, or it ends the lines with an output and a status, or
+-- it is wrong
 pub data TurnOf (S O : Type 0) : Type 0 where
   goes : S → O → TurnOf S O
   ends : O → Status → TurnOf S O
@@ -80,9 +83,11 @@ module _ {S : Type 0} (turn : S → List ℕ → Turn S) where
   given_last state number bytes opened = record { text = []; status = None }
   given_last state number bytes full = too_long
   given_last state number [] ended = bad number NoEnd
-  given_last state number (byte ∷ bytes) ended = given_line state number (trim (byte ∷ bytes)) (λ next. bad (number + 1) NoEnd)
+  given_last state number (byte ∷ bytes) ended =
+      given_line state number (trim (byte ∷ bytes)) (λ next. bad (number + 1) NoEnd)
 
-  -- lines from a state and a number on; so many bytes without a line feed are too long a line, whatever comes behind them
+  -- lines from a state and a number on; so many bytes without a line feed are too long a line, whatever comes behind
+  -- them
   abbrev pub given_from : S → ℕ → Cut → Close → Given
   given_from state number (whole line more) close =
       given_line state number (trim line) (λ next. given_from next (number + 1) more close)

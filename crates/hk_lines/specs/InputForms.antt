@@ -1,5 +1,6 @@
 -- The forms of lines that are read (this project's own).
-use Rattle.std.specs.Prelude.{ℕ, nat_le, if◌then◌else◌, List, [], ◌∷◌, length, codes, Option, Some, None, Result, Ok, Err, option_and_then}
+use Rattle.std.specs.Prelude.{ℕ, nat_le, if◌then◌else◌, List, [], ◌∷◌, length, codes, Option, Some, None, Result, Ok}
+use Rattle.std.specs.Prelude.{Err, option_and_then}
 use Rattle.std.specs.Option.{option_map}
 use Rattle.std.specs.Str.{bytes_eq}
 use Rattle.hk_base.specs.declared.ids.AccountId.{AccountId}
@@ -43,7 +44,8 @@ ledger_of parts = None
 
 -- `good` or `bad`
 abbrev pub verdict_of : List ℕ → Option Verdict
-verdict_of word = if bytes_eq word (codes "good") then Some Good else if bytes_eq word (codes "bad") then Some Bad else None
+verdict_of word =
+    if bytes_eq word (codes "good") then Some Good else if bytes_eq word (codes "bad") then Some Bad else None
 
 -- `tx good <blob>` and `tx bad <blob>`
 abbrev pub tx_of : List (List ℕ) → Option InputLine

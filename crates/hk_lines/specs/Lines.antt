@@ -1,7 +1,8 @@
 -- The lines of bytes, and a machine that goes through them (this project's own).
 use Rattle.std.specs.Prelude.{◌≡◌, ℕ, ◌+◌, nat_le, if◌then◌else◌, List, [], ◌∷◌, length, take, Some, None}
 use Rattle.hk_lines.specs.Cut.{Cut, behind, whole, cut, trim, is_skipped}
-use Rattle.hk_lines.specs.Given.{Close, opened, ended, full, Given, after, bad, too_long, Turn, goes, ends, wrong, given}
+use Rattle.hk_lines.specs.Given.{Close, opened, ended, full, Given, after, bad, too_long, Turn, goes, ends, wrong}
+use Rattle.hk_lines.specs.Given.{given}
 use Rattle.hk_lines.specs.Numbers.{longest_line, endless_line}
 use Rattle.hk_lines.specs.declared.rule.Rule.{Rule}
 use Rattle.hk_lines.specs.declared.rule.Rule.TheVariants.{LineTooLong, NoEnd}
@@ -19,7 +20,8 @@ pub data Lines (L : Type 0) : Type 0 where
   right : L → Lines L → Lines L
   last : Ending → Lines L
 
--- what a line is: a right one, the last one, or a wrong one; what decides over the order of lines goes on with the first
+-- what a line is: a right one, the last one, or a wrong one; what decides over the order of lines goes on with the
+-- first
 pub data Read (Q L : Type 0) : Type 0 where
   takes : Q → L → Read Q L
   closes : Read Q L
@@ -51,11 +53,13 @@ module _ {Q L : Type 0} (read : Q → List ℕ → Read Q L) where
   lines_from order number (whole line more) close =
       lines_line order number (trim line) (λ next. lines_from next (number + 1) more close)
   lines_from order number (behind bytes) close =
-      if nat_le endless_line (length bytes) then last (bad_at number LineTooLong) else lines_last order number bytes close
+      if nat_le endless_line (length bytes) then last (bad_at number LineTooLong)
+      else lines_last order number bytes close
 
   -- the lines of the bytes up to the limit
   abbrev pub lines : ℕ → Q → List ℕ → Close → Lines L
-  lines limit order bytes close = lines_from order 1 (cut (take limit bytes)) (if nat_le limit (length bytes) then full else close)
+  lines limit order bytes close =
+      lines_from order 1 (cut (take limit bytes)) (if nat_le limit (length bytes) then full else close)
 
 -- a machine: what a right line makes of its state and prints, and what it prints and answers at the end
 pub record Machine (S L : Type 0) : Type 0 where
@@ -67,7 +71,10 @@ module _ {S L : Type 0} (machine : Machine S L) where
   -- the machine goes through the lines
   abbrev pub fold_lines : S → Lines L → Given
   fold_lines state (right line more) = after (machine.step state line).1 (fold_lines (machine.step state line).0 more)
-  fold_lines state (last at_end) = record { text = machine.final_text state; status = Some (machine.final_status state) }
+  fold_lines state (last at_end) = record {
+    text = machine.final_text state;
+    status = Some (machine.final_status state);
+  }
   fold_lines state (last (bad_at number rule)) = bad number rule
   fold_lines state (last at_limit) = too_long
   fold_lines state (last unended) = record { text = []; status = None }
@@ -85,4 +92,5 @@ module _ {S L : Type 0} (machine : Machine S L) where
 abbrev pub Fuses : {Q S L : Type 0} → (Q → List ℕ → Read Q L) → Machine S L → Type 0
 Fuses {Q} {S} {L} read machine =
     (limit : ℕ) (order : Q) (state : S) (bytes : List ℕ) (close : Close) →
-    given (turn_of machine read) limit (order, state) bytes close ≡ fold_lines machine state (lines read limit order bytes close)
+    given (turn_of machine read) limit (order, state) bytes close
+    ≡ fold_lines machine state (lines read limit order bytes close)

@@ -3,7 +3,12 @@ use Rattle.std.specs.Prelude.{ℕ, List, codes}
 use Rattle.hk_base.specs.declared.outcome.Trap.{Trap}
 use Rattle.hk_base.specs.declared.outcome.Trap.TheVariants.{Unreachable, DivideByZero, DivideOverflow, Memory}
 use Rattle.hk_lines.specs.declared.result_name.ResultName.{ResultName}
-use Rattle.hk_lines.specs.declared.result_name.ResultName.TheVariants.{TooLong, Unparsed, Malformed, BadSignature, NoAccount, PastSequence, FutureSequence, Early, FeeTooSmall, FeeUnfunded, HookRejected, Unsupported, Redundant, NoDestination, Unfunded, Occupied, HookRefused, NoDefinition, NoInstall, Reserve, Success}
+use Rattle.hk_lines.specs.declared.result_name.ResultName.TheVariants.{TooLong, Unparsed, Malformed, BadSignature}
+use Rattle.hk_lines.specs.declared.result_name.ResultName.TheVariants.{NoAccount, PastSequence, FutureSequence, Early}
+use Rattle.hk_lines.specs.declared.result_name.ResultName.TheVariants.{FeeTooSmall, FeeUnfunded, HookRejected}
+use Rattle.hk_lines.specs.declared.result_name.ResultName.TheVariants.{Unsupported, Redundant, NoDestination, Unfunded}
+use Rattle.hk_lines.specs.declared.result_name.ResultName.TheVariants.{Occupied, HookRefused, NoDefinition, NoInstall}
+use Rattle.hk_lines.specs.declared.result_name.ResultName.TheVariants.{Reserve, Success}
 use Rattle.hk_lines.specs.declared.result_name.ResultName.TheVariants as result
 use Rattle.hk_lines.specs.declared.settlement.Settlement.{Settlement}
 use Rattle.hk_lines.specs.declared.settlement.Settlement.TheVariants.{Applied, Refused, Expired}

@@ -8,7 +8,9 @@ use Rattle.hk_base.specs.declared.outcome.Outcome.{Outcome}
 use Rattle.hk_base.specs.declared.outcome.Outcome.TheVariants.{Accepted, RolledBack, Returned, Trapped, GuardViolated}
 use Rattle.hk_lines.specs.Names.{result_name, settlement_name, trap_name}
 use Rattle.hk_lines.specs.declared.output_line.OutputLine.{OutputLine}
-use Rattle.hk_lines.specs.declared.output_line.OutputLine.TheVariants.{Run, Ledger, Tx, Settled, Hook, State, Emit, Callback, FinalAccount, FinalInstall, FinalState, FinalQueued, FinalTotal, Done}
+use Rattle.hk_lines.specs.declared.output_line.OutputLine.TheVariants.{Run, Ledger, Tx, Settled, Hook, State, Emit}
+use Rattle.hk_lines.specs.declared.output_line.OutputLine.TheVariants.{Callback, FinalAccount, FinalInstall, FinalState}
+use Rattle.hk_lines.specs.declared.output_line.OutputLine.TheVariants.{FinalQueued, FinalTotal, Done}
 use Rattle.hk_lines.specs.declared.result_name.ResultName.{ResultName}
 
 -- the text of an outcome in lower-case hex, or a dash where it is empty
@@ -50,27 +52,34 @@ line_text (Tx number result fee) =
     codes "tx " ++ (decimal number ++ (32 ∷ (result_name result ++ (codes " fee " ++ (decimal fee ++ 10 ∷ [])))))
 line_text (Settled number word result fee) =
     codes "settled "
-    ++ (decimal number ++ (32 ∷ (settlement_name word ++ (32 ∷ (result_text result ++ (codes " fee " ++ (decimal fee ++ 10 ∷ [])))))))
+    ++ (decimal number ++
+    (32 ∷ (settlement_name word ++ (32 ∷ (result_text result ++ (codes " fee " ++ (decimal fee ++ 10 ∷ [])))))))
 line_text (Hook account position outcome count bound) =
-    codes "hook " ++ (hex_text account.0 ++ (32 ∷ (decimal position ++ (32 ∷ (run_text outcome count bound ++ 10 ∷ [])))))
+    codes "hook " ++
+    (hex_text account.0 ++ (32 ∷ (decimal position ++ (32 ∷ (run_text outcome count bound ++ 10 ∷ [])))))
 line_text (State account namespace key value) =
     codes "state " ++ (entry_text account namespace key ++ (32 ∷ (value_text value ++ 10 ∷ [])))
 line_text (Emit number first last) =
-    codes "emit " ++ (decimal number ++ (codes " first " ++ (decimal first ++ (codes " last " ++ (decimal last ++ 10 ∷ [])))))
+    codes "emit " ++
+    (decimal number ++ (codes " first " ++ (decimal first ++ (codes " last " ++ (decimal last ++ 10 ∷ [])))))
 line_text (Callback account position outcome count bound) =
-    codes "callback " ++ (hex_text account.0 ++ (32 ∷ (decimal position ++ (32 ∷ (run_text outcome count bound ++ 10 ∷ [])))))
+    codes "callback " ++
+    (hex_text account.0 ++ (32 ∷ (decimal position ++ (32 ∷ (run_text outcome count bound ++ 10 ∷ [])))))
 line_text (FinalAccount id balance sequence hooks states) =
     codes "final account "
     ++ (hex_text id.0
-    ++ (32 ∷ (decimal balance ++ (32 ∷ (decimal sequence ++ (32 ∷ (decimal hooks ++ (32 ∷ (decimal states ++ 10 ∷ [])))))))))
+    ++ (32 ∷
+    (decimal balance ++ (32 ∷ (decimal sequence ++ (32 ∷ (decimal hooks ++ (32 ∷ (decimal states ++ 10 ∷ [])))))))))
 line_text (FinalInstall account position hash namespace) =
     codes "final install "
-    ++ (hex_text account.0 ++ (32 ∷ (decimal position ++ (32 ∷ (hex_text hash.0 ++ (32 ∷ (hex_text namespace.0 ++ 10 ∷ [])))))))
+    ++ (hex_text account.0 ++
+    (32 ∷ (decimal position ++ (32 ∷ (hex_text hash.0 ++ (32 ∷ (hex_text namespace.0 ++ 10 ∷ [])))))))
 line_text (FinalState account namespace key value) =
     codes "final state " ++ (entry_text account namespace key ++ (32 ∷ (hex_text value ++ 10 ∷ [])))
 line_text (FinalQueued number first last) =
     codes "final queued " ++ (decimal number ++ (32 ∷ (decimal first ++ (32 ∷ (decimal last ++ 10 ∷ [])))))
-line_text (FinalTotal balances burnt) = codes "final total " ++ (decimal balances ++ (codes " burnt " ++ (decimal burnt ++ 10 ∷ [])))
+line_text (FinalTotal balances burnt) =
+    codes "final total " ++ (decimal balances ++ (codes " burnt " ++ (decimal burnt ++ 10 ∷ [])))
 line_text Done = codes "done" ++ 10 ∷ []
 
 -- the line tells of no run of a hook

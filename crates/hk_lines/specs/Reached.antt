@@ -1,4 +1,5 @@
--- The state in which a command is when its last line comes: the one that ends it, a wrong one, or none (this project's own).
+-- The state in which a command is when its last line comes: the one that ends it, a wrong one, or none (this project's
+-- own).
 use Rattle.std.specs.Prelude.{ℕ, nat_le, if◌then◌else◌, List, [], ◌∷◌, length, take}
 use Rattle.hk_lines.specs.Cut.{Cut, behind, whole, cut, trim, is_skipped}
 use Rattle.hk_lines.specs.Given.{Turn, goes}

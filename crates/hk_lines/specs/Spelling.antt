@@ -22,13 +22,16 @@ verdict_word Bad = codes "bad"
 -- these words spell the line; a number is the decimal that it prints as, in its range
 abbrev pub Spells : InputLine → List (List ℕ) → Type 0
 Spells (Account id balance sequence) words =
-    (word : List ℕ) × SpellsBytes id.0 word × (length id.0 ≡ 20) × (balance ≤ most_drops) × (1 ≤ sequence) × (sequence ≤ 4294967294)
+    (word : List ℕ) × SpellsBytes id.0 word × (length id.0 ≡ 20) × (balance ≤ most_drops) × (1 ≤ sequence)
+    × (sequence ≤ 4294967294)
     × (words ≡ codes "account" ∷ word ∷ decimal balance ∷ decimal sequence ∷ [])
 Spells (Ledger seq time last_hash) words =
-    (word : List ℕ) × SpellsBytes last_hash.0 word × (length last_hash.0 ≡ 32) × (1 ≤ seq) × (seq ≤ 4294967000) × (time ≤ 4294967295)
+    (word : List ℕ) × SpellsBytes last_hash.0 word × (length last_hash.0 ≡ 32) × (1 ≤ seq) × (seq ≤ 4294967000)
+    × (time ≤ 4294967295)
     × (words ≡ codes "ledger" ∷ decimal seq ∷ decimal time ∷ word ∷ [])
 Spells (Tx verdict blob) words =
-    (word : List ℕ) × SpellsBytes blob word × (1 ≤ length blob) × (words ≡ codes "tx" ∷ verdict_word verdict ∷ word ∷ [])
+    (word : List ℕ) × SpellsBytes blob word × (1 ≤ length blob)
+    × (words ≡ codes "tx" ∷ verdict_word verdict ∷ word ∷ [])
 Spells (Hook code) words =
     (word : List ℕ) × SpellsBytes code word × (1 ≤ length code) × (words ≡ codes "hook" ∷ word ∷ [])
 Spells End words = words ≡ codes "end" ∷ []
@@ -37,7 +40,8 @@ Spells End words = words ≡ codes "end" ∷ []
 abbrev pub IsNamed : List (List ℕ) → Type 0
 IsNamed [] = ⊥
 IsNamed (word ∷ parts) =
-    (word ≡ codes "account") ⊎ ((word ≡ codes "ledger") ⊎ ((word ≡ codes "tx") ⊎ ((word ≡ codes "hook") ⊎ (word ≡ codes "end"))))
+    (word ≡ codes "account")
+    ⊎ ((word ≡ codes "ledger") ⊎ ((word ≡ codes "tx") ⊎ ((word ≡ codes "hook") ⊎ (word ≡ codes "end"))))
 
 -- words are read as a line exactly where they spell it
 abbrev pub ReadsSpelled : Type 0
@@ -50,4 +54,5 @@ ReadsNamed = (words : List (List ℕ)) → (words_read words ≡ Err BadWord) �
 -- words are a bad shape exactly where they begin with the name of a form and spell no line
 abbrev pub ReadsShaped : Type 0
 ReadsShaped =
-    (words : List (List ℕ)) → (words_read words ≡ Err BadShape) ↔ (IsNamed words × ((line : InputLine) → Spells line words → ⊥))
+    (words : List (List ℕ)) →
+    (words_read words ≡ Err BadShape) ↔ (IsNamed words × ((line : InputLine) → Spells line words → ⊥))

@@ -10,7 +10,8 @@ use Rattle.hk_base.specs.Hexadecimal.{hex_bytes}
 abbrev pub words_of : List ℕ → List (List ℕ)
 words_of line = slice_split (λ byte. byte == 32) line
 
--- the number of a word in decimal, from the least to the most: a word without sign and leading zeros is what its value prints as
+-- the number of a word in decimal, from the least to the most: a word without sign and leading zeros is what its value
+-- prints as
 abbrev pub number_of : ℕ → ℕ → List ℕ → Option ℕ
 number_of least most word =
     let value = digits_value 10 word in

@@ -1,5 +1,6 @@
 //! Bytes that come in pieces are cut into lines.
-ghost use Rattle.std.specs.Prelude.{◌≡◌, ◌<◌, ◌≤◌, ◌⊎◌, ◌++◌, [], List, ℕ, length, take, MatchOption, IfOk, IfSome, OnErr};
+ghost use Rattle.std.specs.Prelude.{◌≡◌, ◌<◌, ◌≤◌, ◌⊎◌, ◌++◌, [], List, ℕ, length, take, MatchOption, IfOk, IfSome};
+ghost use Rattle.std.specs.Prelude.{OnErr};
 ghost use Rattle.hk_lines.specs.Cut.{cut, behind, whole};
 ghost use Rattle.hk_lines.specs.Cutting.{IsUnfinished, IsReady, IsHeld, Shows, ShowsReady};
 
@@ -19,7 +20,8 @@ pub enum CutLine<'a> {
 
 /// What cuts the bytes of pieces into lines. It holds one line at most.
 ///
-/// Whatever the pieces are, the lines and the rest are those of the joined bytes, up to and with the first that is too long.
+/// Whatever the pieces are, the lines and the rest are those of the joined bytes, up to and with the first that is too
+/// long.
 #[derive(Drop)]
 pub struct Cutter {
     held: Vec<u8>,
@@ -47,7 +49,8 @@ impl Cutter {
         }
     }
 
-    /// Takes bytes from the front of a piece and answers how many, at least one: those up to and with the first line feed, or
+    /// Takes bytes from the front of a piece and answers how many, at least one: those up to and with the first line
+    /// feed, or
     /// fewer where the line then has 2,097,154 bytes without one. A refused call takes nothing.
     pub fn feed(&mut self, piece: &[u8]) -> Result<usize, NoMemory>
         requires some { 0 < length piece.now }
@@ -65,7 +68,8 @@ impl Cutter {
         Ok(count)
     }
 
-    /// The line that stands ready; none exactly where neither a line feed nor 2,097,154 bytes were taken since the last one. It
+    /// The line that stands ready; none exactly where neither a line feed nor 2,097,154 bytes were taken since the last
+    /// one. It
     /// takes no memory.
     pub fn ready(&self) -> Option<CutLine<'_>>
         ensures line { MatchOption result (IsUnfinished self.now) (λ line. ShowsReady self.now line) }

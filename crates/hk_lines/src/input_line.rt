@@ -6,7 +6,8 @@ use hk_base::{AccountId, Hash256, Items};
 /// A line of input.
 #[derive(Debug, Drop)]
 pub enum InputLine {
-    /// Opens an account with a balance in drops, at most 100,000,000,000,000,000, and a sequence from 1 to 4,294,967,294.
+    /// Opens an account with a balance in drops, at most 100,000,000,000,000,000, and a sequence from 1 to
+    /// 4,294,967,294.
     Account {
         id: AccountId,
         balance: u64,

@@ -2,7 +2,8 @@
 ghost use Rattle.std.specs.Prelude.{◌≡◌, ◌++◌, ◌∷◌, [], string_bytes, IfOk, OnErr, OnOk};
 ghost use Rattle.hk_base.specs.Hexadecimal.{hex_text};
 ghost use Rattle.hk_lines.specs.Names.{trap_name};
-ghost use Rattle.hk_lines.specs.OutputForms.{bytes_text, result_text, value_text, outcome_text, run_text, entry_text, line_text, IsNoRun, IsFinal};
+ghost use Rattle.hk_lines.specs.OutputForms.{bytes_text, result_text, value_text, outcome_text, run_text, entry_text};
+ghost use Rattle.hk_lines.specs.OutputForms.{line_text, IsNoRun, IsFinal};
 
 use crate::{OutputLine, ResultName};
 use hk_base::{AccountId, Hash256, Items, NoMemory, Outcome, Trap};

@@ -1,6 +1,7 @@
 //! Reading lines.
 ghost use Rattle.std.specs.Prelude.{◌≡◌, ◌⊎◌, map, IfOk};
-ghost use Rattle.hk_lines.specs.InputForms.{account_of, ledger_of, verdict_of, tx_of, hook_of, end_of, words_read, line_read};
+ghost use Rattle.hk_lines.specs.InputForms.{account_of, ledger_of, verdict_of, tx_of, hook_of, end_of, words_read};
+ghost use Rattle.hk_lines.specs.InputForms.{line_read};
 
 use crate::limits::{LONGEST_LINE, MOST_DROPS};
 use crate::words::{read_bytes, read_number, read_sized, split_words};
@@ -10,7 +11,8 @@ use std::alloc::Global;
 
 /// Reads a line, without its line feed and the carriage return before it.
 ///
-/// A line of more than 2,097,152 bytes is `TooLong`, one whose first word is the name of no form is `BadWord`, and one whose
+/// A line of more than 2,097,152 bytes is `TooLong`, one whose first word is the name of no form is `BadWord`, and one
+/// whose
 /// other words aren't those of its form is `BadShape`.
 pub fn read_line(alloc: Global, line: &[u8]) -> Result<InputLine, LineFault>
     ensures read { (result ≡ line_read line.now) ⊎ (result ≡ Err LineFault.NoMemory) }

@@ -26,7 +26,11 @@ impl LineMachine for Tally {
 
     ghost read = { λ order line. takes order line };
 
-    ghost machine = { record { step = λ tally line. (tally, []); final_text = λ tally. []; final_status = λ tally. Done } };
+    ghost machine = { record {
+      step = λ tally line. (tally, []);
+      final_text = λ tally. [];
+      final_status = λ tally. Done;
+    } };
 }
 
 #[test]

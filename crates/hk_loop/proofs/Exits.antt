@@ -1,5 +1,7 @@
 -- What stands where a command has gone through its input, or was stopped on the way.
-use Rattle.std.proofs.Common.{◌≡◌, ◌≢◌, ◌⊎◌, ◌<◌, ◌≤◌, ◌+◌, ◌-◌, ℕ, nat_le, false, if◌then◌else◌, List, [], ◌++◌, length, take, drop, Option, Some, None, refl, sym, ap, subst, ◌∙◌, inl, inr, arith, append_assoc, append-nil, length-append}
+use Rattle.std.proofs.Common.{◌≡◌, ◌≢◌, ◌⊎◌, ◌<◌, ◌≤◌, ◌+◌, ◌-◌, ℕ, nat_le, false, if◌then◌else◌, List, [], ◌++◌}
+use Rattle.std.proofs.Common.{length, take, drop, Option, Some, None, refl, sym, ap, subst, ◌∙◌, inl, inr, arith}
+use Rattle.std.proofs.Common.{append_assoc, append-nil, length-append}
 use Rattle.std.proofs.Math.Seq.{take-append-add}
 use Rattle.std.proofs.lemmas.Bool.Decides.{nat_tests}
 use Rattle.std.proofs.lemmas.List.{take-append-drop, take-append-le, take_all}
@@ -7,12 +9,14 @@ use Rattle.std.specs.Io.KnownBytes.{Consumes, Appends, IsAtEnd}
 use Rattle.hk_base.specs.Outside.{Rose}
 use Rattle.hk_lines.specs.Cut.{Cut, behind, whole, cut, begun, joined}
 use Rattle.hk_lines.specs.Cutting.{IsUnfinished}
-use Rattle.hk_lines.specs.Given.{Close, opened, ended, full, Given, after, bad, too_long, Turn, given_from, given_last, close_of, given, gives, so_far, IsFront}
+use Rattle.hk_lines.specs.Given.{Close, opened, ended, full, Given, after, bad, too_long, Turn, given_from, given_last}
+use Rattle.hk_lines.specs.Given.{close_of, given, gives, so_far, IsFront}
 use Rattle.hk_lines.specs.Numbers.{endless_line}
 use Rattle.hk_lines.specs.Reached.{state_last, state_from, reached}
 use Rattle.hk_lines.specs.declared.rule.Rule.TheVariants.{LineTooLong}
 use Rattle.hk_lines.specs.declared.status.Status.{Status}
-use Rattle.hk_lines.specs.declared.status.Status.TheVariants.{Done, Usage, BadInput, ReadFault, WriteFault, NoMemory, HookRefused, TooLong}
+use Rattle.hk_lines.specs.declared.status.Status.TheVariants.{Done, Usage, BadInput, ReadFault, WriteFault, NoMemory}
+use Rattle.hk_lines.specs.declared.status.Status.TheVariants.{HookRefused, TooLong}
 use Rattle.hk_lines.proofs.CutLemmas.{cut_joined, joined_joined}
 use Rattle.hk_lines.proofs.Due.{front_after, from_front, given_full, given_short}
 use Rattle.hk_loop.specs.Answers.{IsAnswer, WroteFront, Gave}
@@ -31,7 +35,8 @@ pub record Took (bytes taken : List ℕ) (left : Option (List ℕ)) : Type 0 whe
   pub told : left ≡ Some rest
   pub split : bytes ≡ taken ++ rest
 
-pub took : (before left : Option (List ℕ)) (taken bytes : List ℕ) → Consumes before left taken → before ≡ Some bytes → Took bytes taken left
+pub took : (before left : Option (List ℕ)) (taken bytes : List ℕ) → Consumes before left taken → before ≡ Some bytes →
+    Took bytes taken left
 took None left taken bytes h is = absurd (cc)
 took (Some all) None taken bytes h is = absurd h
 took (Some all) (Some rest) taken bytes h is =
@@ -49,7 +54,8 @@ at_end_none (Some all) rest h is = let same : rest ≡ all = cc in same ∙ h
 front_of : (early late first more : List ℕ) → first ++ more ≡ early ++ late → length more ≤ length late →
     first ≡ early ++ drop (length early) first
 front_of early late first more is longer =
-    let sizes : length first + length more ≡ length early + length late = sym (length-append first more) ∙ ap length is ∙ length-append early late in
+    let sizes : length first + length more ≡ length early + length late =
+    sym (length-append first more) ∙ ap length is ∙ length-append early late in
     let fits : length early ≤ length first = omega (arith, sizes) in
     let same : take (length early) first ≡ early =
     sym (take-append-le (length early) first more fits) ∙ ap (take (length early)) is
@@ -76,7 +82,8 @@ gave_after front later all status start before now wrote is gave = record {
 }
 
 -- what is given was written or its front, by whether the status is an answer
-pub wrote_front : (status : Status) (given : Given) (before now : Option (List ℕ)) → (IsAnswer status → Gave given status before now) →
+pub wrote_front : (status : Status) (given : Given) (before now : Option (List ℕ)) →
+    (IsAnswer status → Gave given status before now) →
     ((IsAnswer status → ⊥) → WroteFront given.text before now) → WroteFront given.text before now
 wrote_front status given before now answered stopped = of_either status answered stopped where
   all : {status : Status} → Gave given status before now → WroteFront given.text before now
@@ -102,7 +109,8 @@ module _ {S : Type 0} (turn : S → List ℕ → Turn S) where
   -- what is given for bytes up to the limit
   given_on : (limit : ℕ) (start : S) (bytes more : List ℕ) (close : Close) → length bytes ≤ limit →
       given turn limit start (bytes ++ more) close
-      ≡ given_from turn start 1 (joined (cut bytes) (cut (take (limit - length bytes) more))) (close_of turn limit (bytes ++ more) close)
+      ≡ given_from turn start 1 (joined (cut bytes) (cut (take (limit - length bytes) more)))
+      (close_of turn limit (bytes ++ more) close)
   given_on limit start bytes more close fits =
       let sum : limit ≡ length bytes + (limit - length bytes) = omega arith in
       let same : take limit (bytes ++ more) ≡ bytes ++ take (limit - length bytes) more =
@@ -111,7 +119,8 @@ module _ {S : Type 0} (turn : S → List ℕ → Turn S) where
       (ap cut same ∙ cut_joined bytes (take (limit - length bytes) more))
 
   given_at : (limit : ℕ) (start : S) (bytes : List ℕ) (close : Close) → length bytes ≤ limit →
-      given turn limit start bytes close ≡ given_from turn start 1 (joined (cut bytes) (behind [])) (close_of turn limit bytes close)
+      given turn limit start bytes close
+      ≡ given_from turn start 1 (joined (cut bytes) (behind [])) (close_of turn limit bytes close)
   given_at limit start bytes close fits =
       ap (λ c. given_from turn start 1 c (close_of turn limit bytes close))
       (ap cut (take_all limit bytes fits) ∙ sym (joined_nothing (cut bytes)))
@@ -126,9 +135,11 @@ module _ {S : Type 0} (turn : S → List ℕ → Turn S) where
 
 -- a command that has taken some bytes
 module _ {S : Type 0} (turn : S → List ℕ → Turn S) (limit room : ℕ) (start state : S) (number : ℕ) (held : List ℕ)
-    (left0 left written0 written : Option (List ℕ)) (was : Going turn limit room start state number held left0 left written0 written) where
+    (left0 left written0 written : Option (List ℕ))
+    (was : Going turn limit room start state number held left0 left written0 written) where
   -- what those bytes give, however it goes on
-  given_taken : (close : Close) → given_from turn start 1 (cut was.taken) close ≡ after was.front (given_last turn state number held close)
+  given_taken : (close : Close) →
+      given_from turn start 1 (cut was.taken) close ≡ after was.front (given_last turn state number held close)
   given_taken close =
       ap (λ c. given_from turn start 1 c close) (sym (joined_nothing (cut was.taken)))
       ∙ was.given (behind []) close
@@ -153,7 +164,8 @@ module _ {S : Type 0} (turn : S → List ℕ → Turn S) (limit room : ℕ) (sta
       ∙ was.given (joined (cut piece) more) close
 
   -- what was due for all but so many of the bytes was written before the last piece was taken
-  prompt_front : (piece early late : List ℕ) → length (was.taken ++ piece) ≤ limit → length piece ≤ 65536 → was.taken ++ piece ≡ early ++ late →
+  prompt_front : (piece early late : List ℕ) → length (was.taken ++ piece) ≤ limit → length piece ≤ 65536 →
+      was.taken ++ piece ≡ early ++ late →
       65536 ≤ length late → IsFront (so_far turn limit start early) was.front
   prompt_front piece early late few size is much =
       let rest : List ℕ = drop (length early) was.taken in
@@ -162,13 +174,15 @@ module _ {S : Type 0} (turn : S → List ℕ → Turn S) (limit room : ℕ) (sta
       let due : so_far turn limit start early ≡ (given_from turn start 1 (cut early) opened).text =
       ap (λ g. g.text) (given_short turn limit start early opened below) in
       let all : (given_from turn start 1 (joined (cut early) (cut rest)) opened).text ≡ was.front =
-      ap (λ c. (given_from turn start 1 c opened).text) (sym (cut_joined early rest) ∙ ap cut (sym parts)) ∙ front_taken in
+      ap (λ c. (given_from turn start 1 c opened).text) (sym (cut_joined early rest) ∙ ap cut (sym parts))
+      ∙ front_taken in
       subst (λ text. IsFront text was.front) (sym due)
       (subst (λ text. IsFront (given_from turn start 1 (cut early) opened).text text) all
       (from_front turn (cut early) (cut rest) start 1 opened))
 
   -- all but so many of the bytes had ended nothing
-  goes_front : (piece early late : List ℕ) → length (was.taken ++ piece) ≤ limit → length piece ≤ 65536 → was.taken ++ piece ≡ early ++ late →
+  goes_front : (piece early late : List ℕ) → length (was.taken ++ piece) ≤ limit → length piece ≤ 65536 →
+      was.taken ++ piece ≡ early ++ late →
       65536 ≤ length late → (given turn limit start early opened).status ≡ None
   goes_front piece early late few size is much =
       let rest : List ℕ = drop (length early) was.taken in
@@ -178,26 +192,31 @@ module _ {S : Type 0} (turn : S → List ℕ → Turn S) (limit room : ℕ) (sta
       let none : (given_from turn start 1 (joined (cut early) (cut rest)) opened).status ≡ None =
       ap (λ c. (given_from turn start 1 c opened).status) (sym joins) ∙ goes_taken in
       ap (λ g. g.status) (given_short turn limit start early opened below)
-      ∙ not_yet (given_from turn start 1 (cut early) opened) (given_from turn start 1 (joined (cut early) (cut rest)) opened)
+      ∙ not_yet (given_from turn start 1 (cut early) opened)
+      (given_from turn start 1 (joined (cut early) (cut rest)) opened)
       (from_stays turn (cut early) (cut rest) start 1 opened) none
 
   -- ---- the states that bytes lead to
 
   reached_more : (piece : List ℕ) (more : Cut) →
-      state_from turn start (joined (cut (was.taken ++ piece)) more) ≡ state_from turn state (begun held (joined (cut piece) more))
+      state_from turn start (joined (cut (was.taken ++ piece)) more)
+      ≡ state_from turn state (begun held (joined (cut piece) more))
   reached_more piece more =
       ap (λ c. state_from turn start (joined c more)) (cut_joined was.taken piece)
       ∙ ap (state_from turn start) (joined_joined (cut was.taken) (cut piece) more)
       ∙ was.reached (joined (cut piece) more)
 
   reached_taken : (piece : List ℕ) → length piece ≤ room →
-      reached turn limit start (was.taken ++ piece) ≡ state_from turn state (begun held (joined (cut piece) (behind [])))
+      reached turn limit start (was.taken ++ piece)
+      ≡ state_from turn state (begun held (joined (cut piece) (behind [])))
   reached_taken piece most =
       let few : length (was.taken ++ piece) ≤ limit = omega (arith, length-append was.taken piece, was.size) in
-      ap (state_from turn start) (ap cut (take_all limit (was.taken ++ piece) few) ∙ sym (joined_nothing (cut (was.taken ++ piece))))
+      ap (state_from turn start)
+      (ap cut (take_all limit (was.taken ++ piece) few) ∙ sym (joined_nothing (cut (was.taken ++ piece))))
       ∙ reached_more piece (behind [])
 
-  reached_on : (piece rest : List ℕ) → length piece ≤ room → (more : Cut) × (reached turn limit start ((was.taken ++ piece) ++ rest)
+  reached_on : (piece rest : List ℕ) → length piece ≤ room →
+      (more : Cut) × (reached turn limit start ((was.taken ++ piece) ++ rest)
       ≡ state_from turn state (begun held (joined (cut piece) more)))
   reached_on piece rest most =
       let few : length (was.taken ++ piece) ≤ limit = omega (arith, length-append was.taken piece, was.size) in
@@ -213,17 +232,24 @@ module _ {S : Type 0} (turn : S → List ℕ → Turn S) (limit room : ℕ) (sta
   reached_end : (piece : List ℕ) → piece ≡ [] →
       state_from turn state (begun held (joined (cut piece) (behind []))) ≡ state_last turn state held
   reached_end piece nothing =
-      ap (λ p. state_from turn state (begun held (joined (cut p) (behind [])))) nothing ∙ ap (state_last turn state) (append-nil held)
+      ap (λ p. state_from turn state (begun held (joined (cut p) (behind [])))) nothing
+      ∙ ap (state_last turn state) (append-nil held)
 
-  stops_kept : {keeps : S → S → Type 0} {final : S} (piece rest bytes : List ℕ) (status : Status) (left' written' : Option (List ℕ)) →
+  stops_kept : {keeps : S → S → Type 0} {final : S} (piece rest bytes : List ℕ) (status : Status)
+      (left' written' : Option (List ℕ)) →
       bytes ≡ (was.taken ++ piece) ++ rest → left' ≡ Some rest → length piece ≤ room →
       EndsAt turn keeps status state number held piece final left' written written'
-      ⊎ (BreaksAt turn keeps status state number held piece final written written' ⊎ FailsAt status piece written written') →
+      ⊎
+      (BreaksAt turn keeps status state number held piece final written written'
+      ⊎ FailsAt status piece written written') →
       status ≡ Done → keeps (reached turn limit start bytes) final
   stops_kept {keeps} {final} piece rest bytes status left' written' split told most (inl ends) done =
       let none : rest ≡ [] = at_end_none left' rest ends.at_end told in
-      let all : bytes ≡ was.taken ++ piece = split ∙ ap (λ r. (was.taken ++ piece) ++ r) none ∙ append-nil (was.taken ++ piece) in
-      subst (λ s. keeps s final) (sym (ap (reached turn limit start) all ∙ reached_taken piece most ∙ reached_end piece ends.nothing)) (ends.kept done)
+      let all : bytes ≡ was.taken ++ piece =
+      split ∙ ap (λ r. (was.taken ++ piece) ++ r) none ∙ append-nil (was.taken ++ piece) in
+      subst (λ s. keeps s final)
+      (sym (ap (reached turn limit start) all ∙ reached_taken piece most ∙ reached_end piece ends.nothing))
+      (ends.kept done)
   stops_kept {keeps} {final} piece rest bytes status left' written' split told most (inr (inl breaks)) done =
       let on = reached_on piece rest most in
       subst (λ s. keeps s final) (sym (ap (reached turn limit start) split ∙ on.1)) (breaks.kept done on.0)
@@ -231,7 +257,8 @@ module _ {S : Type 0} (turn : S → List ℕ → Turn S) (limit room : ℕ) (sta
       let fault : status ≡ ReadFault = fails.failed in absurd (cc)
 
   pub stopped_kept : {keeps : S → S → Type 0} {final : S} (status : Status) (left' written' : Option (List ℕ)) →
-      StopsAt turn keeps status room state number held left written final left' written' → status ≡ Done → (bytes : List ℕ) →
+      StopsAt turn keeps status room state number held left written final left' written' → status ≡ Done →
+      (bytes : List ℕ) →
       left0 ≡ Some bytes → keeps (reached turn limit start bytes) final
   stopped_kept status left' written' stops done bytes known =
       let all : Took bytes (was.taken ++ stops.taken) left' =
@@ -239,13 +266,17 @@ module _ {S : Type 0} (turn : S → List ℕ → Turn S) (limit room : ℕ) (sta
       stops_kept stops.taken all.rest bytes status left' written' all.split all.told stops.most stops.why done
 
   -- a last piece was taken, and a front of what comes then was written
-  leave : {keeps : S → S → Type 0} {final : S} (piece rest bytes : List ℕ) (status : Status) (left' written' : Option (List ℕ)) (later : Given) → bytes ≡ (was.taken ++ piece) ++ rest →
+  leave : {keeps : S → S → Type 0} {final : S} (piece rest bytes : List ℕ) (status : Status)
+      (left' written' : Option (List ℕ)) (later : Given) → bytes ≡ (was.taken ++ piece) ++ rest →
       left' ≡ Some rest → length piece ≤ room → length piece ≤ 65536 → (status ≡ TooLong → room ≡ length piece) →
-      given turn limit start (was.taken ++ piece) (close_at rest) ≡ after was.front later → (wrote : WroteFront later.text written written') →
-      (IsAnswer status → Gave later status written written') → (status ≡ ReadFault → was.front ++ wrote.front ≡ so_far turn limit start (was.taken ++ piece)) →
+      given turn limit start (was.taken ++ piece) (close_at rest) ≡ after was.front later →
+      (wrote : WroteFront later.text written written') →
+      (IsAnswer status → Gave later status written written') →
+      (status ≡ ReadFault → was.front ++ wrote.front ≡ so_far turn limit start (was.taken ++ piece)) →
       (status ≡ Done → keeps (reached turn limit start (was.taken ++ piece)) final) →
       Leaves turn keeps limit start bytes status final left' written0 written'
-  leave {keeps} {final} piece rest bytes status left' written' later split told most size no_more is wrote gave failed kept =
+  leave {keeps} {final} piece rest bytes status left' written' later split told most size no_more is wrote gave failed
+      kept =
       let few : length (was.taken ++ piece) ≤ limit = omega (arith, length-append was.taken piece, was.size) in
       record {
         taken = was.taken ++ piece;
@@ -255,11 +286,18 @@ module _ {S : Type 0} (turn : S → List ℕ → Turn S) (limit room : ℕ) (sta
         told = told;
         wrote = writes_more _ _ _ _ _ was.wrote wrote.wrote;
         few = few;
-        answered = λ answer. gave_after was.front later (given turn limit start (was.taken ++ piece) (close_at rest)) status written0 written written' was.wrote is (gave answer);
-        full = λ long. let all : room ≡ length piece = no_more long in omega (arith, length-append was.taken piece, was.size);
+        answered =
+            λ answer.
+            gave_after was.front later (given turn limit start (was.taken ++ piece) (close_at rest)) status written0
+            written written' was.wrote is (gave answer);
+        full =
+            λ long.
+            let all : room ≡ length piece = no_more long in omega (arith, length-append was.taken piece, was.size);
         due = subst (λ g. IsFront (was.front ++ wrote.front) g.text) (sym is)
             (front_after was.front wrote.front later.text (wrote.more, wrote.whole));
-        prompt = λ early late parts much. front_more _ was.front wrote.front (prompt_front piece early late few size parts much);
+        prompt =
+            λ early late parts much.
+            front_more _ was.front wrote.front (prompt_front piece early late few size parts much);
         goes = λ early late parts much. goes_front piece early late few size parts much;
         failed = failed;
         kept = kept;
@@ -268,7 +306,8 @@ module _ {S : Type 0} (turn : S → List ℕ → Turn S) (limit room : ℕ) (sta
   -- ---- the input ended
 
   given_end : (piece rest : List ℕ) → 0 < room → piece ≡ [] → rest ≡ [] →
-      given turn limit start (was.taken ++ piece) (close_at rest) ≡ after was.front (given_from turn state number (behind held) ended)
+      given turn limit start (was.taken ++ piece) (close_at rest)
+      ≡ after was.front (given_from turn state number (behind held) ended)
   given_end piece rest some nothing none =
       let below : length was.taken < limit = omega (arith, was.size) in
       ap (λ r. given turn limit start (was.taken ++ piece) (close_at r)) none
@@ -278,56 +317,74 @@ module _ {S : Type 0} (turn : S → List ℕ → Turn S) (limit room : ℕ) (sta
       ∙ given_taken ended
       ∙ ap (after was.front) (sym (unfinished_last turn state number held ended was.unfinished))
 
-  end_answers : {keeps : S → S → Type 0} {final : S} (piece rest bytes : List ℕ) (status : Status) (left' written' : Option (List ℕ)) → bytes ≡ (was.taken ++ piece) ++ rest →
-      left' ≡ Some rest → 0 < room → EndsAt turn keeps status state number held piece final left' written written' → IsAnswer status →
+  end_answers : {keeps : S → S → Type 0} {final : S} (piece rest bytes : List ℕ) (status : Status)
+      (left' written' : Option (List ℕ)) → bytes ≡ (was.taken ++ piece) ++ rest →
+      left' ≡ Some rest → 0 < room → EndsAt turn keeps status state number held piece final left' written written' →
+      IsAnswer status →
       Gave (gives turn limit start bytes) status written0 written'
   end_answers piece rest bytes status left' written' split told some ends answer =
       let none : rest ≡ [] = at_end_none left' rest ends.at_end told in
-      let all : bytes ≡ was.taken ++ piece = split ∙ ap (λ r. (was.taken ++ piece) ++ r) none ∙ append-nil (was.taken ++ piece) in
-      gave_after was.front (given_from turn state number (behind held) ended) (gives turn limit start bytes) status written0 written written' was.wrote
+      let all : bytes ≡ was.taken ++ piece =
+      split ∙ ap (λ r. (was.taken ++ piece) ++ r) none ∙ append-nil (was.taken ++ piece) in
+      gave_after was.front (given_from turn state number (behind held) ended) (gives turn limit start bytes) status
+      written0 written written' was.wrote
       (ap (gives turn limit start) all ∙ given_end piece [] some ends.nothing refl)
       (ends.answered answer)
 
-  end_leaves : {keeps : S → S → Type 0} {final : S} (piece rest bytes : List ℕ) (status : Status) (left' written' : Option (List ℕ)) → bytes ≡ (was.taken ++ piece) ++ rest →
+  end_leaves : {keeps : S → S → Type 0} {final : S} (piece rest bytes : List ℕ) (status : Status)
+      (left' written' : Option (List ℕ)) → bytes ≡ (was.taken ++ piece) ++ rest →
       left' ≡ Some rest → length piece ≤ room → length piece ≤ 65536 → 0 < room → status ≢ TooLong →
-      EndsAt turn keeps status state number held piece final left' written written' → Leaves turn keeps limit start bytes status final left' written0 written'
+      EndsAt turn keeps status state number held piece final left' written written' →
+      Leaves turn keeps limit start bytes status final left' written0 written'
   end_leaves {keeps} {final} piece rest bytes status left' written' split told most size some short ends =
-      leave piece rest bytes status left' written' (given_from turn state number (behind held) ended) split told most size (λ long. absurd (short long))
+      leave piece rest bytes status left' written' (given_from turn state number (behind held) ended) split told most
+      size (λ long. absurd (short long))
       (given_end piece rest some ends.nothing (at_end_none left' rest ends.at_end told))
-      (wrote_front status (given_from turn state number (behind held) ended) written written' ends.answered ends.stopped)
+      (wrote_front status (given_from turn state number (behind held) ended) written written' ends.answered
+      ends.stopped)
       ends.answered (λ fault. absurd (ends.no_read_fault fault))
-      (λ done. subst (λ s. keeps s final) (sym (reached_taken piece most ∙ reached_end piece ends.nothing)) (ends.kept done))
+      (λ done.
+      subst (λ s. keeps s final) (sym (reached_taken piece most ∙ reached_end piece ends.nothing)) (ends.kept done))
 
   -- ---- a piece ended the command
 
   given_break : (piece rest : List ℕ) → length piece ≤ room →
       given turn limit start (was.taken ++ piece) (close_at rest)
       ≡ after was.front
-      (given_from turn state number (begun held (joined (cut piece) (behind []))) (close_of turn limit (was.taken ++ piece) (close_at rest)))
+      (given_from turn state number (begun held (joined (cut piece) (behind [])))
+      (close_of turn limit (was.taken ++ piece) (close_at rest)))
   given_break piece rest most =
       let few : length (was.taken ++ piece) ≤ limit = omega (arith, length-append was.taken piece, was.size) in
       given_at turn limit start (was.taken ++ piece) (close_at rest) few
       ∙ given_more piece (behind []) (close_of turn limit (was.taken ++ piece) (close_at rest))
 
-  break_answers : {keeps : S → S → Type 0} {final : S} (piece rest bytes : List ℕ) (status : Status) (written' : Option (List ℕ)) → bytes ≡ (was.taken ++ piece) ++ rest →
-      length piece ≤ room → BreaksAt turn keeps status state number held piece final written written' → IsAnswer status →
+  break_answers : {keeps : S → S → Type 0} {final : S} (piece rest bytes : List ℕ) (status : Status)
+      (written' : Option (List ℕ)) → bytes ≡ (was.taken ++ piece) ++ rest →
+      length piece ≤ room → BreaksAt turn keeps status state number held piece final written written' →
+      IsAnswer status →
       Gave (gives turn limit start bytes) status written0 written'
   break_answers piece rest bytes status written' split most breaks answer =
       let few : length (was.taken ++ piece) ≤ limit = omega (arith, length-append was.taken piece, was.size) in
       let more : Cut = cut (take (limit - length (was.taken ++ piece)) rest) in
       let close : Close = close_of turn limit ((was.taken ++ piece) ++ rest) ended in
-      gave_after was.front (given_from turn state number (begun held (joined (cut piece) more)) close) (gives turn limit start bytes) status
+      gave_after was.front (given_from turn state number (begun held (joined (cut piece) more)) close)
+      (gives turn limit start bytes) status
       written0 written written' was.wrote
-      (ap (gives turn limit start) split ∙ given_on turn limit start (was.taken ++ piece) rest ended few ∙ given_more piece more close)
+      (ap (gives turn limit start) split
+      ∙ given_on turn limit start (was.taken ++ piece) rest ended few
+      ∙ given_more piece more close)
       (breaks.answered answer more close)
 
-  break_leaves : {keeps : S → S → Type 0} {final : S} (piece rest bytes : List ℕ) (status : Status) (left' written' : Option (List ℕ)) → bytes ≡ (was.taken ++ piece) ++ rest →
+  break_leaves : {keeps : S → S → Type 0} {final : S} (piece rest bytes : List ℕ) (status : Status)
+      (left' written' : Option (List ℕ)) → bytes ≡ (was.taken ++ piece) ++ rest →
       left' ≡ Some rest → length piece ≤ room → length piece ≤ 65536 → status ≢ TooLong →
-      BreaksAt turn keeps status state number held piece final written written' → Leaves turn keeps limit start bytes status final left' written0 written'
+      BreaksAt turn keeps status state number held piece final written written' →
+      Leaves turn keeps limit start bytes status final left' written0 written'
   break_leaves {keeps} {final} piece rest bytes status left' written' split told most size short breaks =
       let close : Close = close_of turn limit (was.taken ++ piece) (close_at rest) in
       let later : Given = given_from turn state number (begun held (joined (cut piece) (behind []))) close in
-      leave piece rest bytes status left' written' later split told most size (λ long. absurd (short long)) (given_break piece rest most)
+      leave piece rest bytes status left' written' later split told most size (λ long. absurd (short long))
+      (given_break piece rest most)
       (wrote_front status later written written' (λ answer. breaks.answered answer (behind []) close)
       (λ accident. breaks.stopped accident (behind []) close))
       (λ answer. breaks.answered answer (behind []) close) (λ fault. absurd (breaks.no_read_fault fault))
@@ -335,7 +392,8 @@ module _ {S : Type 0} (turn : S → List ℕ → Turn S) (limit room : ℕ) (sta
 
   -- ---- a read failed
 
-  fail_leaves : {keeps : S → S → Type 0} {final : S} (piece rest bytes : List ℕ) (status : Status) (left' written' : Option (List ℕ)) → bytes ≡ (was.taken ++ piece) ++ rest →
+  fail_leaves : {keeps : S → S → Type 0} {final : S} (piece rest bytes : List ℕ) (status : Status)
+      (left' written' : Option (List ℕ)) → bytes ≡ (was.taken ++ piece) ++ rest →
       left' ≡ Some rest → length piece ≤ room → length piece ≤ 65536 → 0 < room → status ≢ TooLong →
       FailsAt status piece written written' → Leaves turn keeps limit start bytes status final left' written0 written'
   fail_leaves {keeps} {final} piece rest bytes status left' written' split told most size some short fails =
@@ -347,28 +405,36 @@ module _ {S : Type 0} (turn : S → List ℕ → Turn S) (limit room : ℕ) (sta
       ∙ ap (so_far turn limit start) (append-nil was.taken)
       ∙ ap (λ g. g.text) (given_short turn limit start was.taken opened below)
       ∙ front_taken in
-      leave piece rest bytes status left' written' later split told most size (λ long. absurd (short long)) (given_break piece rest most)
+      leave piece rest bytes status left' written' later split told most size (λ long. absurd (short long))
+      (given_break piece rest most)
       (record { front = []; more = later.text; whole = refl; wrote = fails.still })
       (λ answer. absurd (subst IsAnswer fails.failed answer)) (λ _. append-nil was.front ∙ sym due)
       (λ done. let fault : status ≡ ReadFault = fails.failed in absurd (cc))
 
   -- ---- whichever of these
 
-  stops_answers : {keeps : S → S → Type 0} {final : S} (piece rest bytes : List ℕ) (status : Status) (left' written' : Option (List ℕ)) → bytes ≡ (was.taken ++ piece) ++ rest →
+  stops_answers : {keeps : S → S → Type 0} {final : S} (piece rest bytes : List ℕ) (status : Status)
+      (left' written' : Option (List ℕ)) → bytes ≡ (was.taken ++ piece) ++ rest →
       left' ≡ Some rest → length piece ≤ room → 0 < room →
       EndsAt turn keeps status state number held piece final left' written written'
-      ⊎ (BreaksAt turn keeps status state number held piece final written written' ⊎ FailsAt status piece written written') →
+      ⊎
+      (BreaksAt turn keeps status state number held piece final written written'
+      ⊎ FailsAt status piece written written') →
       IsAnswer status → Gave (gives turn limit start bytes) status written0 written'
   stops_answers piece rest bytes status left' written' split told most some (inl ends) answer =
       end_answers piece rest bytes status left' written' split told some ends answer
   stops_answers piece rest bytes status left' written' split told most some (inr (inl breaks)) answer =
       break_answers piece rest bytes status written' split most breaks answer
-  stops_answers piece rest bytes status left' written' split told most some (inr (inr fails)) answer = absurd (subst IsAnswer fails.failed answer)
+  stops_answers piece rest bytes status left' written' split told most some (inr (inr fails)) answer =
+      absurd (subst IsAnswer fails.failed answer)
 
-  stops_leaves : {keeps : S → S → Type 0} {final : S} (piece rest bytes : List ℕ) (status : Status) (left' written' : Option (List ℕ)) → bytes ≡ (was.taken ++ piece) ++ rest →
+  stops_leaves : {keeps : S → S → Type 0} {final : S} (piece rest bytes : List ℕ) (status : Status)
+      (left' written' : Option (List ℕ)) → bytes ≡ (was.taken ++ piece) ++ rest →
       left' ≡ Some rest → length piece ≤ room → length piece ≤ 65536 → 0 < room → status ≢ TooLong →
       EndsAt turn keeps status state number held piece final left' written written'
-      ⊎ (BreaksAt turn keeps status state number held piece final written written' ⊎ FailsAt status piece written written') →
+      ⊎
+      (BreaksAt turn keeps status state number held piece final written written'
+      ⊎ FailsAt status piece written written') →
       Leaves turn keeps limit start bytes status final left' written0 written'
   stops_leaves piece rest bytes status left' written' split told most size some short (inl ends) =
       end_leaves piece rest bytes status left' written' split told most size some short ends
@@ -378,7 +444,8 @@ module _ {S : Type 0} (turn : S → List ℕ → Turn S) (limit room : ℕ) (sta
       fail_leaves piece rest bytes status left' written' split told most size some short fails
 
   pub stopped_answers : {keeps : S → S → Type 0} {final : S} (status : Status) (left' written' : Option (List ℕ)) →
-      StopsAt turn keeps status room state number held left written final left' written' → 0 < room → IsAnswer status → (bytes : List ℕ) → left0 ≡ Some bytes →
+      StopsAt turn keeps status room state number held left written final left' written' → 0 < room → IsAnswer status →
+      (bytes : List ℕ) → left0 ≡ Some bytes →
       Gave (gives turn limit start bytes) status written0 written'
   stopped_answers status left' written' stops some answer bytes known =
       let all : Took bytes (was.taken ++ stops.taken) left' =
@@ -386,22 +453,27 @@ module _ {S : Type 0} (turn : S → List ℕ → Turn S) (limit room : ℕ) (sta
       stops_answers stops.taken all.rest bytes status left' written' all.split all.told stops.most some stops.why answer
 
   pub stopped_leaves : {keeps : S → S → Type 0} {final : S} (status : Status) (left' written' : Option (List ℕ)) →
-      StopsAt turn keeps status room state number held left written final left' written' → 0 < room → (bytes : List ℕ) → left0 ≡ Some bytes →
+      StopsAt turn keeps status room state number held left written final left' written' → 0 < room → (bytes : List ℕ) →
+      left0 ≡ Some bytes →
       Leaves turn keeps limit start bytes status final left' written0 written'
   stopped_leaves status left' written' stops some bytes known =
       let all : Took bytes (was.taken ++ stops.taken) left' =
       took left0 left' (was.taken ++ stops.taken) bytes (takes_more _ _ _ _ _ was.consumed stops.consumed) known in
-      stops_leaves stops.taken all.rest bytes status left' written' all.split all.told stops.most stops.few some stops.not_full stops.why
+      stops_leaves stops.taken all.rest bytes status left' written' all.split all.told stops.most stops.few some
+      stops.not_full stops.why
 
   -- ---- the limit was reached
 
-  given_limit : (rest : List ℕ) (close : Close) → room ≡ 0 → given turn limit start (was.taken ++ rest) close ≡ after was.front too_long
+  given_limit : (rest : List ℕ) (close : Close) → room ≡ 0 →
+      given turn limit start (was.taken ++ rest) close ≡ after was.front too_long
   given_limit rest close none =
       let size : limit ≡ length was.taken = omega (arith, was.size) in
       let reached : limit ≤ length (was.taken ++ rest) = omega (arith, length-append was.taken rest) in
       let same : take limit (was.taken ++ rest) ≡ was.taken =
       take-append-le limit was.taken rest (omega arith) ∙ take_all limit was.taken (omega arith) in
-      given_full turn limit start (was.taken ++ rest) close reached ∙ ap (λ t. given_from turn start 1 (cut t) full) same ∙ given_taken full
+      given_full turn limit start (was.taken ++ rest) close reached
+      ∙ ap (λ t. given_from turn start 1 (cut t) full) same
+      ∙ given_taken full
 
   -- the line was written, or its front
   pub record Tells (status : Status) (written' : Option (List ℕ)) : Type 0 where
@@ -409,21 +481,26 @@ module _ {S : Type 0} (turn : S → List ℕ → Turn S) (limit room : ℕ) (sta
     pub stopped : (IsAnswer status → ⊥) → WroteFront too_long.text written written'
 
   tells_line : (status : Status) (written' : Option (List ℕ)) (line : List ℕ) → line ≡ too_long.text →
-      (IsAnswer status → (status ≡ TooLong) × Appends written written' line) → ((IsAnswer status → ⊥) → WroteFront line written written') →
+      (IsAnswer status → (status ≡ TooLong) × Appends written written' line) →
+      ((IsAnswer status → ⊥) → WroteFront line written written') →
       Tells status written'
   tells_line status written' line is wrote_all front = record {
     answered = λ answer. ((wrote_all answer).0, subst (Appends written written') is (wrote_all answer).1);
     stopped = λ accident. subst (λ text. WroteFront text written written') is (front accident);
   }
 
-  told_all : (status : Status) (written' : Option (List ℕ)) → Tells status written' → IsAnswer status → Gave too_long status written written'
+  told_all : (status : Status) (written' : Option (List ℕ)) → Tells status written' → IsAnswer status →
+      Gave too_long status written written'
   told_all status written' tells answer =
       let all : (status ≡ TooLong) × Appends written written' too_long.text = tells.answered answer in
       record { wrote = all.1; ended = ap Some (sym all.0) }
 
-  pub limit_answers : (status : Status) (written' : Option (List ℕ)) → room ≡ 0 → {line : List ℕ} → line ≡ too_long.text →
-      (IsAnswer status → (status ≡ TooLong) × Appends written written' line) → ((IsAnswer status → ⊥) → WroteFront line written written') →
-      IsAnswer status → (bytes : List ℕ) → left0 ≡ Some bytes → Gave (gives turn limit start bytes) status written0 written'
+  pub limit_answers : (status : Status) (written' : Option (List ℕ)) → room ≡ 0 → {line : List ℕ} →
+      line ≡ too_long.text →
+      (IsAnswer status → (status ≡ TooLong) × Appends written written' line) →
+      ((IsAnswer status → ⊥) → WroteFront line written written') →
+      IsAnswer status → (bytes : List ℕ) → left0 ≡ Some bytes →
+      Gave (gives turn limit start bytes) status written0 written'
   limit_answers status written' none {line} is wrote_all front answer bytes known =
       let tells : Tells status written' = tells_line status written' line is wrote_all front in
       let all : Took bytes was.taken left = took left0 left was.taken bytes was.consumed known in
@@ -432,14 +509,18 @@ module _ {S : Type 0} (turn : S → List ℕ → Turn S) (limit room : ℕ) (sta
 
   pub limit_leaves : {keeps : S → S → Type 0} {final : S} (status : Status) (written' : Option (List ℕ)) → room ≡ 0 →
       {line : List ℕ} → line ≡ too_long.text →
-      (IsAnswer status → (status ≡ TooLong) × Appends written written' line) → ((IsAnswer status → ⊥) → WroteFront line written written') →
-      status ≢ ReadFault → (bytes : List ℕ) → left0 ≡ Some bytes → Leaves turn keeps limit start bytes status final left written0 written'
+      (IsAnswer status → (status ≡ TooLong) × Appends written written' line) →
+      ((IsAnswer status → ⊥) → WroteFront line written written') →
+      status ≢ ReadFault → (bytes : List ℕ) → left0 ≡ Some bytes →
+      Leaves turn keeps limit start bytes status final left written0 written'
   limit_leaves {keeps} {final} status written' none {line} is wrote_all front unfailed bytes known =
       let tells : Tells status written' = tells_line status written' line is wrote_all front in
       let all : Took bytes was.taken left = took left0 left was.taken bytes was.consumed known in
-      leave [] all.rest bytes status left written' too_long (all.split ∙ ap (λ t. t ++ all.rest) (sym (append-nil was.taken))) all.told
+      leave [] all.rest bytes status left written' too_long
+      (all.split ∙ ap (λ t. t ++ all.rest) (sym (append-nil was.taken))) all.told
       (omega arith) (omega arith) (λ _. none) (given_limit [] (close_at all.rest) none)
-      (wrote_front status too_long written written' (told_all status written' tells) tells.stopped) (told_all status written' tells)
+      (wrote_front status too_long written written' (told_all status written' tells) tells.stopped)
+      (told_all status written' tells)
       (λ fault. absurd (unfailed fault))
       (λ done. absurd (never_done status tells.answered done))
 
@@ -467,7 +548,8 @@ sink_cause_since status source now sink before sink' later sink_later cause = re
 }
 
 -- where no call failed, an answer or want of memory is left
-pub exact_status : (status : Status) (found : Option Status) → (IsAnswer status → found ≡ Some status) → status ≢ ReadFault → status ≢ WriteFault →
+pub exact_status : (status : Status) (found : Option Status) → (IsAnswer status → found ≡ Some status) →
+    status ≢ ReadFault → status ≢ WriteFault →
     (found ≡ Some status) ⊎ (status ≡ NoMemory)
 exact_status Done found answered no_read no_write = inl (answered tt)
 exact_status Usage found answered no_read no_write = inl (answered tt)

@@ -1,7 +1,8 @@
 -- Bytes that are taken or written in steps.
 use Rattle.std.proofs.lemmas.List.{take-append-drop, take_rest}
 use Rattle.std.proofs.lemmas.Bool.{eqb-true}
-use Rattle.std.proofs.Common.{◌≡◌, ℕ, ◌-◌, ◌==◌, true, ◌∷◌, arith, List, [], ◌++◌, take, drop, length, Option, Some, None, ap, sym, ◌∙◌, refl, append_assoc, append-nil}
+use Rattle.std.proofs.Common.{◌≡◌, ℕ, ◌-◌, ◌==◌, true, ◌∷◌, arith, List, [], ◌++◌, take, drop, length, Option, Some}
+use Rattle.std.proofs.Common.{None, ap, sym, ◌∙◌, refl, append_assoc, append-nil}
 use Rattle.std.specs.Io.KnownBytes.{Consumes, Appends, Keeps}
 
 -- no bytes are taken
@@ -10,11 +11,13 @@ takes_none None = tt
 takes_none (Some left) = refl
 
 -- some bytes are taken, and then more
-pub takes_more : (a b c : Option (List ℕ)) (first more : List ℕ) → Consumes a b first → Consumes b c more → Consumes a c (first ++ more)
+pub takes_more : (a b c : Option (List ℕ)) (first more : List ℕ) → Consumes a b first → Consumes b c more →
+    Consumes a c (first ++ more)
 takes_more None b c first more h k = tt
 takes_more (Some a) None c first more h k = absurd h
 takes_more (Some a) (Some b) None first more h k = absurd k
-takes_more (Some a) (Some b) (Some c) first more h k = h ∙ ap (λ left. first ++ left) k ∙ sym (append_assoc first more c)
+takes_more (Some a) (Some b) (Some c) first more h k =
+    h ∙ ap (λ left. first ++ left) k ∙ sym (append_assoc first more c)
 
 -- nothing is taken where what is known stays
 pub takes_kept : (a b : Option (List ℕ)) → Keeps a b → Consumes a b []
@@ -34,11 +37,13 @@ writes_kept (Some a) None h = h
 writes_kept (Some a) (Some b) h = h ∙ sym (append-nil a)
 
 -- some bytes are written, and then more
-pub writes_more : (a b c : Option (List ℕ)) (first more : List ℕ) → Appends a b first → Appends b c more → Appends a c (first ++ more)
+pub writes_more : (a b c : Option (List ℕ)) (first more : List ℕ) → Appends a b first → Appends b c more →
+    Appends a c (first ++ more)
 writes_more None b c first more h k = tt
 writes_more (Some a) None c first more h k = absurd h
 writes_more (Some a) (Some b) None first more h k = absurd k
-writes_more (Some a) (Some b) (Some c) first more h k = k ∙ ap (λ written. written ++ more) h ∙ append_assoc a first more
+writes_more (Some a) (Some b) (Some c) first more h k =
+    k ∙ ap (λ written. written ++ more) h ∙ append_assoc a first more
 
 -- some bytes are written, and then nothing
 pub writes_still : (a b c : Option (List ℕ)) (front : List ℕ) → Appends a b front → Keeps b c → Appends a c front

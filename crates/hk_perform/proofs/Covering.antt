@@ -1,5 +1,6 @@
 -- Sums and reserves stay within what there can be of drops while a transaction goes on.
-use Rattle.std.proofs.Common.{◌≡◌, ◌∙◌, ℕ, ◌+◌, ◌-◌, ◌<◌, ◌≤◌, ◌^◌, true, List, length, refl, sym, ap, subst, arith, Some, IsSome}
+use Rattle.std.proofs.Common.{◌≡◌, ◌∙◌, ℕ, ◌+◌, ◌-◌, ◌<◌, ◌≤◌, ◌^◌, true, List, length, refl, sym, ap, subst, arith}
+use Rattle.std.proofs.Common.{Some, IsSome}
 use Rattle.std.specs.Option.{is_some}
 use Rattle.std.specs.FinMap.{get}
 use Rattle.hk_base.specs.declared.ids.AccountId.{AccountId}
@@ -41,7 +42,8 @@ use Rattle.hk_perform.specs.Needs.{AreCovered, CanPay, IsReady, IsSound}
 use Rattle.hk_perform.proofs.Paying.{held_too}
 
 -- what a chain or a callback of the host rests on
-pub fit : (ledger : LedgerValue) (setting : Setting) (m : Entries) → IsSound ledger setting → AreCovered m → IsFit setting ledger.entries m
+pub fit : (ledger : LedgerValue) (setting : Setting) (m : Entries) → IsSound ledger setting → AreCovered m →
+    IsFit setting ledger.entries m
 fit ledger setting m sound covered = record {
   reserves = λ id. let most = covered.reserves id in omega (arith, most);
   fees = sound.fees;
@@ -67,7 +69,8 @@ ready_sound ledger setting ready stored fees = record {
 }
 
 -- what is left when fee and sequence are taken
-found_sum : (ledger : LedgerValue) (origin : Origin) → balances (found_by ledger origin).entries ≡ balances ledger.entries
+found_sum : (ledger : LedgerValue) (origin : Origin) →
+    balances (found_by ledger origin).entries ≡ balances ledger.entries
 found_sum ledger (Handed verdict) = refl
 found_sum ledger (Queued number) = without_sum ledger.entries number
 
@@ -93,12 +96,14 @@ paid_covered ledger origin t covered pays =
           omega (arith, put, same, most, funded);
       reserves = λ id.
           let alike = reserve_rests ledger.entries (with_holding m t.account left next) id (λ k h.
-          get-with_holding m t.account left next k (own_account id k h (Some t.account)) ∙ found_own ledger origin id k h) in
+          get-with_holding m t.account left next k (own_account id k h (Some t.account))
+          ∙ found_own ledger origin id k h) in
           let most = covered.reserves id in
           omega (arith, alike, most);
     })
 
-pub paid_sender : (ledger : LedgerValue) (origin : Origin) (t : Transaction) → CanPay ledger.entries (origin_of origin) t →
+pub paid_sender : (ledger : LedgerValue) (origin : Origin) (t : Transaction) →
+    CanPay ledger.entries (origin_of origin) t →
     IsSome (holding_at (paid (found_by ledger origin).entries (origin_of origin) t) t.account)
 paid_sender ledger origin t pays =
     let m = (found_by ledger origin).entries in
@@ -122,7 +127,8 @@ pub on_sender : (m n : Entries) (w : Writes) (es : List Emission) (id : AccountI
 on_sender m n w es id same there = subst (λ l. IsSome (holding_at l id)) (sym (made m w es (draft_on n) same)) there
 
 -- an end that is kept leaves reserves, sum and accounts so
-module _ (m : Entries) (seq next : ℕ) (before : Entries) (a : Draft) (w : Writes) (es : List Emission) (records : List OutputLine) where
+module _ (m : Entries) (seq next : ℕ) (before : Entries) (a : Draft) (w : Writes) (es : List Emission)
+    (records : List OutputLine) where
   end_covered : (x : ChainEnd) → ChainFits reads_emitted seq before a x → WithinFit reserve a x → AreCovered a.entries →
       EndMeans m x (found.Kept w es records) → AreCovered (with_writes m w)
   end_covered (ends.kept d lines) chained within covered means =
@@ -132,7 +138,8 @@ module _ (m : Entries) (seq next : ℕ) (before : Entries) (a : Draft) (w : Writ
       })
   end_covered (ends.rejected lines) chained within covered means = absurd means
 
-  end_sender : (x : ChainEnd) (id : AccountId) → ChainFits reads_emitted seq before a x → IsSome (holding_at a.entries id) →
+  end_sender : (x : ChainEnd) (id : AccountId) → ChainFits reads_emitted seq before a x →
+      IsSome (holding_at a.entries id) →
       EndMeans m x (found.Kept w es records) → IsSome (holding_at (with_writes m w) id)
   end_sender (ends.kept d lines) id chained there means =
       subst (λ l. IsSome (holding_at l id)) (sym (made m w es d means.0))
@@ -140,36 +147,48 @@ module _ (m : Entries) (seq next : ℕ) (before : Entries) (a : Draft) (w : Writ
   end_sender (ends.rejected lines) id chained there means = absurd means
 
 -- a chain, and the chains of both sides
-module _ (chain_law : ChainsFit) (limits : IsMeasured (engine_of native)) (ledger : LedgerValue) (setting : Setting) where
-  one_fits : (account : AccountId) (a : Draft) → ChainFits reads_emitted setting.header.seq ledger.entries a (chain_by ledger setting account a)
+module _ (chain_law : ChainsFit) (limits : IsMeasured (engine_of native)) (ledger : LedgerValue)
+    (setting : Setting) where
+  one_fits : (account : AccountId) (a : Draft) →
+      ChainFits reads_emitted setting.header.seq ledger.entries a (chain_by ledger setting account a)
   one_fits account a = chain_law setting ledger.next ledger.entries account a
 
-  one_measured : (account : AccountId) (a : Draft) → Fit (engine_of native) ledger.next a (chain_by ledger setting account a)
+  one_measured : (account : AccountId) (a : Draft) →
+      Fit (engine_of native) ledger.next a (chain_by ledger setting account a)
   one_measured account a = limits.chains setting.header ledger.next ledger.entries setting.transaction account a
 
   pub chain_covered : (account : AccountId) (a : Draft) (w : Writes) (es : List Emission) (records : List OutputLine) →
       AreCovered a.entries → EndMeans ledger.entries (chain_by ledger setting account a) (found.Kept w es records) →
       AreCovered (with_writes ledger.entries w)
   chain_covered account a w es records covered means =
-      end_covered ledger.entries setting.header.seq ledger.next ledger.entries a w es records (chain_by ledger setting account a)
+      end_covered ledger.entries setting.header.seq ledger.next ledger.entries a w es records
+      (chain_by ledger setting account a)
       (one_fits account a) ((one_measured account a).0) covered means
 
   all_fit : (accounts : List AccountId) (a : Draft) →
       ChainFits reads_emitted setting.header.seq ledger.entries a (chains (chain_by ledger setting) accounts a)
-  all_fit accounts a = chains_fit reads_emitted setting.header.seq ledger.entries (chain_by ledger setting) one_fits accounts a
+  all_fit accounts a =
+      chains_fit reads_emitted setting.header.seq ledger.entries (chain_by ledger setting) one_fits accounts a
 
-  pub sides_covered : (accounts : List AccountId) (a : Draft) (w : Writes) (es : List Emission) (records : List OutputLine) →
-      AreCovered a.entries → EndMeans ledger.entries (chains (chain_by ledger setting) accounts a) (found.Kept w es records) →
+  pub sides_covered : (accounts : List AccountId) (a : Draft) (w : Writes) (es : List Emission)
+      (records : List OutputLine) →
+      AreCovered a.entries →
+      EndMeans ledger.entries (chains (chain_by ledger setting) accounts a) (found.Kept w es records) →
       AreCovered (with_writes ledger.entries w)
   sides_covered accounts a w es records covered means =
-      end_covered ledger.entries setting.header.seq ledger.next ledger.entries a w es records (chains (chain_by ledger setting) accounts a)
+      end_covered ledger.entries setting.header.seq ledger.next ledger.entries a w es records
+      (chains (chain_by ledger setting) accounts a)
       (all_fit accounts a)
-      ((chains_measured (engine_of native) ledger.next reads_emitted setting.header.seq ledger.entries (chain_by ledger setting) one_fits one_measured accounts a).0)
+      ((chains_measured (engine_of native) ledger.next reads_emitted setting.header.seq ledger.entries
+      (chain_by ledger setting) one_fits one_measured accounts a).0)
       covered means
 
-  pub sides_sender : (accounts : List AccountId) (a : Draft) (w : Writes) (es : List Emission) (records : List OutputLine) (id : AccountId) →
-      IsSome (holding_at a.entries id) → EndMeans ledger.entries (chains (chain_by ledger setting) accounts a) (found.Kept w es records) →
+  pub sides_sender : (accounts : List AccountId) (a : Draft) (w : Writes) (es : List Emission)
+      (records : List OutputLine) (id : AccountId) →
+      IsSome (holding_at a.entries id) →
+      EndMeans ledger.entries (chains (chain_by ledger setting) accounts a) (found.Kept w es records) →
       IsSome (holding_at (with_writes ledger.entries w) id)
   sides_sender accounts a w es records id there means =
-      end_sender ledger.entries setting.header.seq ledger.next ledger.entries a w es records (chains (chain_by ledger setting) accounts a) id
+      end_sender ledger.entries setting.header.seq ledger.next ledger.entries a w es records
+      (chains (chain_by ledger setting) accounts a) id
       (all_fit accounts a) there means

@@ -27,7 +27,8 @@ pub record IsOfBytes (t : Transaction) : Type 0 where
   pub burden : t.burden < 2 ^ 63
   pub sequence : t.sequence < 4294967295
 
--- the sum of drops and each reserve are within what there can be of drops, and the setting is of this ledger and of such
+-- the sum of drops and each reserve are within what there can be of drops, and the setting is of this ledger and of
+-- such
 -- a transaction
 pub record IsReady (ledger : LedgerValue) (setting : Setting) : Type 0 where
   pub sum : balances ledger.entries + ledger.burnt ≤ 100000000000000000

@@ -16,7 +16,8 @@ use xo_object::Transaction;
 /// The type that changes hooks.
 const SET_HOOK: u16 = 22;
 
-/// What a transaction does itself, on the ledger with the overlay's writes: a change of hooks, or the rules of its type.
+/// What a transaction does itself, on the ledger with the overlay's writes: a change of hooks, or the rules of its
+/// type.
 pub(crate) fn act<T: Transactor>(
     alloc: Global,
     ledger: &Ledger,

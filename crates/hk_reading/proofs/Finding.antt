@@ -1,5 +1,6 @@
 -- What a function finds is what a relation holds of.
-use Rattle.std.proofs.Common.{◌≡◌, ℕ, ◌<◌, ◌≤◌, ◌==◌, Bool, true, false, List, refl, ap, subst, ◌∙◌, arith, Option, Some, None, nat_lt, nat_le}
+use Rattle.std.proofs.Common.{◌≡◌, ℕ, ◌<◌, ◌≤◌, ◌==◌, Bool, true, false, List, refl, ap, subst, ◌∙◌, arith, Option}
+use Rattle.std.proofs.Common.{Some, None, nat_lt, nat_le}
 use Rattle.std.specs.Prelude.{bytes_eq, Decides}
 use Rattle.std.specs.Option.{option_and_then, option_map}
 use Rattle.std.proofs.lemmas.Bool.Decides.{nat_tests, Decides-eqb, Decides-ltb}
@@ -22,8 +23,12 @@ only_if_some true o x e = (refl, e)
 only_if_some false o x e = none_some x e
 
 -- one value, where a test passes
-pub finds_one : {A T : Type 0} (P : A → Type 0) (b : Bool) (x : A) → Decides b T → (T → P x) → ((y : A) → P y → T × (x ≡ y)) → Finds P (only_if b (Some x))
-finds_one {A} {T} P b x d sound complete = record { sound = λ y e. there b refl y e; complete = λ y p. elsewhere y (complete y p) }
+pub finds_one : {A T : Type 0} (P : A → Type 0) (b : Bool) (x : A) → Decides b T → (T → P x) →
+    ((y : A) → P y → T × (x ≡ y)) → Finds P (only_if b (Some x))
+finds_one {A} {T} P b x d sound complete = record {
+  sound = λ y e. there b refl y e;
+  complete = λ y p. elsewhere y (complete y p);
+}
   where
     there : (c : Bool) → b ≡ c → (y : A) → only_if c (Some x) ≡ Some y → P y
     there true e y h = subst P (some_same x y h) (sound (d.0 e))
@@ -33,8 +38,12 @@ finds_one {A} {T} P b x d sound complete = record { sound = λ y e. there b refl
     elsewhere y (t, e) = ap (λ c. only_if c (Some x)) (d.1 t) ∙ ap Some e
 
 -- what is found, where a test passes
-pub finds_if : {A T : Type 0} (P Q : A → Type 0) (b : Bool) (o : Option A) → Decides b T → Finds P o → ((x : A) → T → P x → Q x) → ((x : A) → Q x → T × P x) → Finds Q (only_if b o)
-finds_if {A} {T} P Q b o d f sound complete = record { sound = λ x e. there b refl x e; complete = λ x q. elsewhere x (complete x q) }
+pub finds_if : {A T : Type 0} (P Q : A → Type 0) (b : Bool) (o : Option A) → Decides b T → Finds P o →
+    ((x : A) → T → P x → Q x) → ((x : A) → Q x → T × P x) → Finds Q (only_if b o)
+finds_if {A} {T} P Q b o d f sound complete = record {
+  sound = λ x e. there b refl x e;
+  complete = λ x q. elsewhere x (complete x q);
+}
   where
     there : (c : Bool) → b ≡ c → (x : A) → only_if c o ≡ Some x → Q x
     there true e x h = sound x (d.0 e) (f.sound x h)
@@ -44,9 +53,13 @@ finds_if {A} {T} P Q b o d f sound complete = record { sound = λ x e. there b r
     elsewhere x (t, p) = ap (λ c. only_if c o) (d.1 t) ∙ f.complete x p
 
 -- what is found from what is found
-pub finds_then : {A B : Type 0} (P : A → Type 0) (R : A → B → Type 0) (Q : B → Type 0) (o : Option A) (f : A → Option B) → Finds P o → ((x : A) → P x → Finds (R x) (f x)) → ((x : A) (y : B) → P x → R x y → Q y) →
+pub finds_then : {A B : Type 0} (P : A → Type 0) (R : A → B → Type 0) (Q : B → Type 0) (o : Option A)
+    (f : A → Option B) → Finds P o → ((x : A) → P x → Finds (R x) (f x)) → ((x : A) (y : B) → P x → R x y → Q y) →
     ((y : B) → Q y → (x : A) × P x × R x y) → Finds Q (option_and_then f o)
-finds_then {A} {B} P R Q o f first next sound complete = record { sound = λ y e. there o refl y e; complete = λ y q. elsewhere y (complete y q) }
+finds_then {A} {B} P R Q o f first next sound complete = record {
+  sound = λ y e. there o refl y e;
+  complete = λ y q. elsewhere y (complete y q);
+}
   where
     there : (p : Option A) → o ≡ p → (y : B) → option_and_then f p ≡ Some y → Q y
     there None e y h = none_some y h
@@ -55,8 +68,12 @@ finds_then {A} {B} P R Q o f first next sound complete = record { sound = λ y e
     elsewhere : (y : B) → ((x : A) × P x × R x y) → option_and_then f o ≡ Some y
     elsewhere y (x, p, r) = ap (option_and_then f) (first.complete x p) ∙ (next x p).complete y r
 
-pub finds_map : {A B : Type 0} (P : A → Type 0) (Q : B → Type 0) (o : Option A) (f : A → B) → Finds P o → ((x : A) → P x → Q (f x)) → ((y : B) → Q y → (x : A) × P x × (f x ≡ y)) → Finds Q (option_map f o)
-finds_map {A} {B} P Q o f first sound complete = record { sound = λ y e. there o refl y e; complete = λ y q. elsewhere y (complete y q) }
+pub finds_map : {A B : Type 0} (P : A → Type 0) (Q : B → Type 0) (o : Option A) (f : A → B) → Finds P o →
+    ((x : A) → P x → Q (f x)) → ((y : B) → Q y → (x : A) × P x × (f x ≡ y)) → Finds Q (option_map f o)
+finds_map {A} {B} P Q o f first sound complete = record {
+  sound = λ y e. there o refl y e;
+  complete = λ y q. elsewhere y (complete y q);
+}
   where
     there : (p : Option A) → o ≡ p → (y : B) → option_map f p ≡ Some y → Q y
     there None e y h = none_some y h
@@ -65,8 +82,12 @@ finds_map {A} {B} P Q o f first sound complete = record { sound = λ y e. there 
     elsewhere : (y : B) → ((x : A) × P x × (f x ≡ y)) → option_map f o ≡ Some y
     elsewhere y (x, p, e) = ap (option_map f) (first.complete x p) ∙ ap Some e
 
-pub finds_like : {A : Type 0} (P Q : A → Type 0) (o : Option A) → Finds P o → ((x : A) → P x → Q x) → ((x : A) → Q x → P x) → Finds Q o
-finds_like P Q o f there back = record { sound = λ x e. there x (f.sound x e); complete = λ x q. f.complete x (back x q) }
+pub finds_like : {A : Type 0} (P Q : A → Type 0) (o : Option A) → Finds P o → ((x : A) → P x → Q x) →
+    ((x : A) → Q x → P x) → Finds Q o
+finds_like P Q o f there back = record {
+  sound = λ x e. there x (f.sound x e);
+  complete = λ x q. f.complete x (back x q);
+}
 
 pub finds_none : {A : Type 0} (P : A → Type 0) → ((x : A) → P x → ⊥) → Finds P None
 finds_none P never = record { sound = λ x e. none_some x e; complete = λ x p. absurd (never x p) }

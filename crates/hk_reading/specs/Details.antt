@@ -1,5 +1,6 @@
 -- What a transaction says of its emission, as a function of the details.
-use Rattle.std.specs.Prelude.{ℕ, ◌&&◌, ◌==◌, nat_lt, Bool, true, false, List, [], ◌∷◌, Option, Some, None, is_some, unwrap_or}
+use Rattle.std.specs.Prelude.{ℕ, ◌&&◌, ◌==◌, nat_lt, Bool, true, false, List, [], ◌∷◌, Option, Some, None, is_some}
+use Rattle.std.specs.Prelude.{unwrap_or}
 use Rattle.std.specs.Option.{option_and_then}
 use Rattle.xo_list.specs.Item.{Item, lookup}
 use Rattle.xo_object.specs.Names as names
@@ -10,9 +11,12 @@ use Rattle.hk_reading.specs.Parsing.{fields_of}
 -- what EmitDetails must have
 abbrev pub is_details : List Item → Bool
 is_details fields =
-    only (names.emit_generation ∷ names.emit_burden ∷ names.emit_parent ∷ names.emit_nonce ∷ names.emit_hook_hash ∷ names.emit_callback ∷ []) fields
+    only
+    (names.emit_generation ∷ names.emit_burden ∷ names.emit_parent ∷ names.emit_nonce ∷ names.emit_hook_hash ∷
+    names.emit_callback ∷ []) fields
     && (is_some (number32 names.emit_generation fields) && (is_some (number64 names.emit_burden fields)
-    && (is_some (lookup names.emit_parent fields) && (is_some (lookup names.emit_nonce fields) && is_some (lookup names.emit_hook_hash fields)))))
+    && (is_some (lookup names.emit_parent fields) &&
+    (is_some (lookup names.emit_nonce fields) && is_some (lookup names.emit_hook_hash fields)))))
 
 -- a generation and a burden
 abbrev pub Said : Type 0

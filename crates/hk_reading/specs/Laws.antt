@@ -16,4 +16,6 @@ ReadsOnlySo = (bytes : List ℕ) (r : Reading) → Reads bytes r → r ≡ readi
 
 -- the function finds exactly the one transaction that fields are, of each type, emitted or not
 abbrev pub TransactionsFound : Type 0
-TransactionsFound = (emitted : Bool) (fields : List Item) (bytes : List ℕ) (t : Transaction) → (transaction_of emitted fields bytes ≡ Some t) ↔ IsTransaction fields bytes emitted t
+TransactionsFound =
+    (emitted : Bool) (fields : List Item) (bytes : List ℕ) (t : Transaction) →
+    (transaction_of emitted fields bytes ≡ Some t) ↔ IsTransaction fields bytes emitted t

@@ -1,5 +1,7 @@
--- The lists in a transaction, as functions of their bytes: each element is guessed from its fields, and taken where each rule holds of it.
-use Rattle.std.specs.Prelude.{ℕ, ◌&&◌, not, nat_le, bytes_eq, Bool, true, List, [], ◌∷◌, ◌++◌, length, Option, Some, None, is_some, unwrap_or}
+-- The lists in a transaction, as functions of their bytes: each element is guessed from its fields, and taken where
+-- each rule holds of it.
+use Rattle.std.specs.Prelude.{ℕ, ◌&&◌, not, nat_le, bytes_eq, Bool, true, List, [], ◌∷◌, ◌++◌, length, Option, Some}
+use Rattle.std.specs.Prelude.{None, is_some, unwrap_or}
 use Rattle.std.specs.Option.{option_and_then, option_map}
 use Rattle.hk_base.specs.declared.ids.AccountId.{AccountId}
 use Rattle.hk_base.specs.declared.ids.Hash256.{Hash256}
@@ -45,7 +47,10 @@ given_as make (Some bytes) = option_map Some (make bytes)
 
 -- parameters
 abbrev pub parameter_guess : List Item → Parameter
-parameter_guess fields = record { name = bytes_in names.parameter_name fields; value = bytes_in names.parameter_value fields }
+parameter_guess fields = record {
+  name = bytes_in names.parameter_name fields;
+  value = bytes_in names.parameter_value fields;
+}
 
 abbrev pub is_parameter : List Item → Parameter → Bool
 is_parameter fields p =
@@ -75,7 +80,10 @@ parameters_of bytes = option_map or_empty (given_as parameters_in bytes)
 
 -- grants
 abbrev pub grant_guess : List Item → Grant
-grant_guess fields = record { hash = hash_of (bytes_in names.hook_hash fields); account = option_map account_of (lookup names.authorize fields) }
+grant_guess fields = record {
+  hash = hash_of (bytes_in names.hook_hash fields);
+  account = option_map account_of (lookup names.authorize fields);
+}
 
 abbrev pub is_grant : List Item → Bool
 is_grant fields = only (names.hook_hash ∷ names.authorize ∷ []) fields && is_some (lookup names.hook_hash fields)

@@ -1,5 +1,7 @@
--- The fields of an object and the elements of an array, as functions of the bytes: each field is guessed from the front, and taken where its bytes are these.
-use Rattle.std.specs.Prelude.{ℕ, zero, suc, ◌==◌, ◌&&◌, ◌||◌, not, nat_lt, nat_le, bytes_eq, Bool, true, false, List, [], ◌∷◌, length, take, drop, Option, Some, None}
+-- The fields of an object and the elements of an array, as functions of the bytes: each field is guessed from the
+-- front, and taken where its bytes are these.
+use Rattle.std.specs.Prelude.{ℕ, zero, suc, ◌==◌, ◌&&◌, ◌||◌, not, nat_lt, nat_le, bytes_eq, Bool, true, false, List}
+use Rattle.std.specs.Prelude.{[], ◌∷◌, length, take, drop, Option, Some, None}
 use Rattle.std.specs.Option.{option_and_then, option_map}
 use Rattle.xo_fields.specs.declared.field.FieldId.{FieldId}
 use Rattle.xo_fields.specs.declared.form.Form.{Form}
@@ -25,7 +27,10 @@ abbrev pub Front : Type 0
 Front = List Item × List ℕ
 
 abbrev pub is_field : FieldId → Bool
-is_field f = nat_lt 0 f.kind && (nat_lt 0 f.code && (nat_lt f.kind 256 && (nat_lt f.code 256 && not ((f.code == 1) && ((f.kind == 14) || (f.kind == 15))))))
+is_field f =
+    nat_lt 0 f.kind &&
+    (nat_lt 0 f.code &&
+    (nat_lt f.kind 256 && (nat_lt f.code 256 && not ((f.code == 1) && ((f.kind == 14) || (f.kind == 15))))))
 
 abbrev pub is_allowed : Bool → ℕ → FieldId → Bool
 is_allowed true last f = f.kind == 14
@@ -36,7 +41,8 @@ abbrev pub head_of : Bool → ℕ → List ℕ → HeaderRead → Option (FieldI
 head_of array last bytes headers.Cut = None
 head_of array last bytes headers.Bad = None
 head_of array last bytes (headers.Header f size) =
-    only_if (is_field f && (is_allowed array last f && bytes_eq (take size bytes) (header f))) (option_map (λ form. (f, form, drop size bytes)) (form_at f.kind))
+    only_if (is_field f && (is_allowed array last f && bytes_eq (take size bytes) (header f)))
+    (option_map (λ form. (f, form, drop size bytes)) (form_at f.kind))
 
 abbrev pub fixed : ℕ → List ℕ → Found
 fixed n bytes = only_if (nat_le n (length bytes)) (Some (take n bytes, drop n bytes))
@@ -45,7 +51,8 @@ fixed n bytes = only_if (nat_le n (length bytes)) (Some (take n bytes, drop n by
 abbrev pub sized : (ℕ → Bool) → List ℕ → LengthRead → Found
 sized fits bytes lengths.Cut = None
 sized fits bytes lengths.Bad = None
-sized fits bytes (lengths.Length n size) = only_if (fits n && bytes_eq (take size bytes) (prefix n)) (fixed n (drop size bytes))
+sized fits bytes (lengths.Length n size) =
+    only_if (fits n && bytes_eq (take size bytes) (prefix n)) (fixed n (drop size bytes))
 
 abbrev pub money : List ℕ → Found
 money bytes = only_if (is_amount (take (amount_size bytes) bytes)) (fixed (amount_size bytes) bytes)
@@ -60,12 +67,15 @@ item_of f found = (record { field = f; value = found.0 }, found.1)
 
 -- the field at the front of bytes
 abbrev pub item_at : (Form → List ℕ → Found) → Bool → ℕ → List ℕ → Option (Item × List ℕ)
-item_at value array last bytes = option_and_then (λ head. option_map (item_of head.0) (value head.1 head.2)) (head_of array last bytes (header_at bytes))
+item_at value array last bytes =
+    option_and_then (λ head. option_map (item_of head.0) (value head.1 head.2))
+    (head_of array last bytes (header_at bytes))
 
 -- a field, and those after it
 abbrev pub and_on : (ℕ → List ℕ → Front) → List ℕ → Option (Item × List ℕ) → Front
 and_on next bytes None = ([], bytes)
-and_on next bytes (Some first) = (first.0 ∷ (next (number first.0.field) first.1).0, (next (number first.0.field) first.1).1)
+and_on next bytes (Some first) =
+    (first.0 ∷ (next (number first.0.field) first.1).0, (next (number first.0.field) first.1).1)
 
 -- the fields at the front of bytes, so many at most
 abbrev pub items_at : (Form → List ℕ → Found) → Bool → ℕ → ℕ → List ℕ → Front
@@ -83,7 +93,8 @@ value_at room Blob bytes = sized (λ n. nat_le n 918744) bytes (length_at bytes)
 value_at room Account bytes = sized (λ n. n == 20) bytes (length_at bytes)
 value_at zero Object bytes = None
 value_at zero Array bytes = None
-value_at (suc room) Object bytes = marked 225 (all_at (value_at room) false bytes).0 (all_at (value_at room) false bytes).1
+value_at (suc room) Object bytes =
+    marked 225 (all_at (value_at room) false bytes).0 (all_at (value_at room) false bytes).1
 value_at (suc room) Array bytes = marked 241 (all_at (value_at room) true bytes).0 (all_at (value_at room) true bytes).1
 
 -- the fields, where no bytes are left

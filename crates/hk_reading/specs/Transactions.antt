@@ -1,5 +1,6 @@
 -- The transaction that fields are, as a function: it is guessed from the fields, and taken where each rule holds of it.
-use Rattle.std.specs.Prelude.{ℕ, ℤ, pos, negsuc, ◌==◌, ◌&&◌, ◌||◌, not, nat_lt, nat_le, Bool, true, false, List, [], Option, Some, None, is_some, unwrap_or}
+use Rattle.std.specs.Prelude.{ℕ, ℤ, pos, negsuc, ◌==◌, ◌&&◌, ◌||◌, not, nat_lt, nat_le, Bool, true, false, List, []}
+use Rattle.std.specs.Prelude.{Option, Some, None, is_some, unwrap_or}
 use Rattle.std.specs.Option.{option_and_then, option_map}
 use Rattle.hk_base.specs.declared.ids.AccountId.{AccountId}
 use Rattle.hk_base.specs.Hashes.{tx_id}
@@ -63,8 +64,11 @@ kind_in fields = unwrap_or (number16 names.transaction_type fields) 0
 
 abbrev pub parts_of : Bool → List Item → Option Parts
 parts_of emitted fields =
-    option_and_then (λ parameters. option_and_then (λ hooks. option_map (λ said. record { parameters = parameters; hooks = hooks; said = said })
-    (said_for emitted (lookup names.emit_details fields))) (hooks_for (kind_in fields == 22) (lookup names.hooks fields))) (parameters_of (lookup names.hook_parameters fields))
+    option_and_then (λ parameters.
+    option_and_then (λ hooks. option_map (λ said. record { parameters = parameters; hooks = hooks; said = said })
+    (said_for emitted (lookup names.emit_details fields)))
+    (hooks_for (kind_in fields == 22) (lookup names.hooks fields)))
+    (parameters_of (lookup names.hook_parameters fields))
 
 abbrev pub guess : List Item → List ℕ → Parts → Transaction
 guess fields bytes parts = record {
@@ -88,7 +92,10 @@ guess fields bytes parts = record {
 -- the fields that each transaction has are there
 abbrev pub has_all : List Item → Bool
 has_all fields =
-    is_some (number16 names.transaction_type fields) && (is_some (lookup names.account fields) && (is_some (number32 names.sequence fields) && (is_native (amount_in (lookup names.fee fields)) && is_some (lookup names.signing_pub_key fields))))
+    is_some (number16 names.transaction_type fields) &&
+    (is_some (lookup names.account fields) &&
+    (is_some (number32 names.sequence fields) &&
+    (is_native (amount_in (lookup names.fee fields)) && is_some (lookup names.signing_pub_key fields))))
 
 -- a known type, amounts that are some, and a number as it must be
 abbrev pub is_right : Bool → List Item → Transaction → Bool
@@ -101,4 +108,5 @@ tested emitted fields t = only_if (has_all fields && is_right emitted fields t) 
 
 -- the transaction that fields are, emitted or not
 unfoldable pub transaction_of : Bool → List Item → List ℕ → Option Transaction
-transaction_of emitted fields bytes = option_and_then (λ parts. tested emitted fields (guess fields bytes parts)) (parts_of emitted fields)
+transaction_of emitted fields bytes =
+    option_and_then (λ parts. tested emitted fields (guess fields bytes parts)) (parts_of emitted fields)

@@ -1,6 +1,8 @@
 -- The command `asm`: what was taken and written when it answered.
-use Rattle.std.proofs.Common.{◌≡◌, ◌≢◌, ◌≤◌, ◌<◌, ◌+◌, ℕ, ◌⊎◌, inl, inr, Bool, true, false, List, [], ◌∷◌, ◌++◌, length, take}
-use Rattle.std.proofs.Common.{nat_le, if◌then◌else◌, Option, Some, None, refl, ap, sym, subst, ◌∙◌, arith, append-nil, length-append}
+use Rattle.std.proofs.Common.{◌≡◌, ◌≢◌, ◌≤◌, ◌<◌, ◌+◌, ℕ, ◌⊎◌, inl, inr, Bool, true, false, List, [], ◌∷◌, ◌++◌, length}
+use Rattle.std.proofs.Common.{take}
+use Rattle.std.proofs.Common.{nat_le, if◌then◌else◌, Option, Some, None, refl, ap, sym, subst, ◌∙◌, arith, append-nil}
+use Rattle.std.proofs.Common.{length-append}
 use Rattle.std.proofs.lemmas.Bool.Decides.{nat_tests}
 use Rattle.std.proofs.lemmas.List.{take-append-le}
 use Rattle.std.specs.Io.KnownBytes.{Appends}
@@ -10,7 +12,8 @@ use Rattle.hk_asm.proofs.Telling.{told_full, told_short, shown_late}
 use Rattle.wa_text.specs.Meaning.{Meaning, means, breaks, unended, meaning}
 use Rattle.hk_lines.specs.Given.{Close, opened, ended, full, Given, IsFront}
 use Rattle.hk_lines.specs.declared.status.Status.{Status}
-use Rattle.hk_lines.specs.declared.status.Status.TheVariants.{Done, Usage, BadInput, ReadFault, WriteFault, NoMemory, TooLong}
+use Rattle.hk_lines.specs.declared.status.Status.TheVariants.{Done, Usage, BadInput, ReadFault, WriteFault, NoMemory}
+use Rattle.hk_lines.specs.declared.status.Status.TheVariants.{TooLong}
 use Rattle.hk_loop.specs.Answers.{IsAnswer, WroteFront, Gave}
 use Rattle.hk_loop.specs.Gathered.{Gathered, Halted}
 use Rattle.hk_loop.specs.Through.{close_at}
@@ -30,7 +33,8 @@ full_same text rest close long =
 module _ (text rest : List ℕ) (whole : length text < longest_text → rest ≡ []) where
   all_same : asm_given (text ++ rest) ended ≡ asm_given text ended
   all_same = of (nat_le longest_text (length text)) refl where
-    of : (test : Bool) → nat_le longest_text (length text) ≡ test → asm_given (text ++ rest) ended ≡ asm_given text ended
+    of : (test : Bool) → nat_le longest_text (length text) ≡ test →
+        asm_given (text ++ rest) ended ≡ asm_given text ended
     of true is = full_same text rest ended (grind (arith, nat_tests))
     of false is =
         ap (λ bytes. asm_given bytes ended)
@@ -39,7 +43,8 @@ module _ (text rest : List ℕ) (whole : length text < longest_text → rest ≡
   -- what comes behind it makes no difference
   closed_same : asm_given text (close_at rest) ≡ asm_given text ended
   closed_same = of (nat_le longest_text (length text)) refl where
-    of : (test : Bool) → nat_le longest_text (length text) ≡ test → asm_given text (close_at rest) ≡ asm_given text ended
+    of : (test : Bool) → nat_le longest_text (length text) ≡ test →
+        asm_given text (close_at rest) ≡ asm_given text ended
     of true is =
         let long : longest_text ≤ length text = grind (arith, nat_tests) in
         told_full text (close_at rest) long ∙ sym (told_full text ended long)
@@ -64,10 +69,12 @@ told_known is_full (means found) status is = let same : Done ≡ status = cc in 
 told_known is_full (breaks number rule) status is = let same : BadInput ≡ status = cc in subst IsTextStatus same tt
 told_known is_full (unended number) status is = undone_known is_full number status is
 
-pub status_known : (bytes : List ℕ) (status : Status) → (asm_given bytes ended).status ≡ Some status → IsTextStatus status
+pub status_known : (bytes : List ℕ) (status : Status) → (asm_given bytes ended).status ≡ Some status →
+    IsTextStatus status
 status_known bytes status = of (nat_le longest_text (length bytes)) where
   of : (test : Bool) →
-      (if test then told_at full (take longest_text bytes) else told_at ended bytes).status ≡ Some status → IsTextStatus status
+      (if test then told_at full (take longest_text bytes) else told_at ended bytes).status ≡ Some status →
+      IsTextStatus status
   of true is = told_known true (meaning (whole_lines (take longest_text bytes))) status is
   of false is = told_known false (meaning bytes) status is
 
@@ -114,11 +121,14 @@ module _ (text : List ℕ) (few : length text ≤ longest_text) (early late : Li
 
 -- ---- the answer
 
-pub text_answered : (bytes text : List ℕ) (status : Status) (left left' before now : Option (List ℕ)) → left ≡ Some bytes →
-    Gathered longest_text text left left' → Gave (asm_given text ended) status before now → Answered Asm bytes status before now
+pub text_answered : (bytes text : List ℕ) (status : Status) (left left' before now : Option (List ℕ)) →
+    left ≡ Some bytes →
+    Gathered longest_text text left left' → Gave (asm_given text ended) status before now →
+    Answered Asm bytes status before now
 text_answered bytes text status left left' before now known gathered gave =
     of left' (subst (λ l. Gathered longest_text text l left') known gathered) where
-      of : (left' : Option (List ℕ)) → Gathered longest_text text (Some bytes) left' → Answered Asm bytes status before now
+      of : (left' : Option (List ℕ)) → Gathered longest_text text (Some bytes) left' →
+          Answered Asm bytes status before now
       of None g = absurd g.consumed
       of (Some rest) g =
           let same : asm_given bytes ended ≡ asm_given text ended =
@@ -130,7 +140,8 @@ text_answered bytes text status left left' before now known gathered gave =
           }
 
 stops_with : (bytes text rest : List ℕ) (status : Status) (before now : Option (List ℕ)) →
-    Gathered longest_text text (Some bytes) (Some rest) → (status ≡ TooLong → (asm_given text ended).status ≡ Some TooLong) →
+    Gathered longest_text text (Some bytes) (Some rest) →
+    (status ≡ TooLong → (asm_given text ended).status ≡ Some TooLong) →
     WroteFront (asm_given text ended).text before now → Stops Asm bytes status (Some rest) before now
 stops_with bytes text rest status before now g long w = record {
   taken = text;
@@ -152,13 +163,15 @@ stops_with bytes text rest status before now g long w = record {
 
 pub text_stops : (bytes text : List ℕ) (status : Status) (left left' before now : Option (List ℕ)) → left ≡ Some bytes →
     Gathered longest_text text left left' → (IsAnswer status → Gave (asm_given text ended) status before now) →
-    ((IsAnswer status → ⊥) → WroteFront (asm_given text ended).text before now) → Stops Asm bytes status left' before now
+    ((IsAnswer status → ⊥) → WroteFront (asm_given text ended).text before now) →
+    Stops Asm bytes status left' before now
 text_stops bytes text status left left' before now known gathered gave front =
     of left' (subst (λ l. Gathered longest_text text l left') known gathered) where
       long : status ≡ TooLong → (asm_given text ended).status ≡ Some TooLong
       long is = (gave (subst IsAnswer (sym is) tt)).ended ∙ ap Some is
 
-      of : (left' : Option (List ℕ)) → Gathered longest_text text (Some bytes) left' → Stops Asm bytes status left' before now
+      of : (left' : Option (List ℕ)) → Gathered longest_text text (Some bytes) left' →
+          Stops Asm bytes status left' before now
       of None g = absurd g.consumed
       of (Some rest) g =
           stops_with bytes text rest status before now g long
@@ -190,7 +203,8 @@ pub halt_stops : (bytes : List ℕ) (status : Status) (left left' now : Option (
     Halted longest_text status left left' → Stops Asm bytes status left' now now
 halt_stops bytes status left left' now known halted =
     of left' (subst (λ l. Halted longest_text status l left') known halted) where
-      of : (left' : Option (List ℕ)) → Halted longest_text status (Some bytes) left' → Stops Asm bytes status left' now now
+      of : (left' : Option (List ℕ)) → Halted longest_text status (Some bytes) left' →
+          Stops Asm bytes status left' now now
       of None h = absurd h.consumed
       of (Some rest) h = halts_with bytes rest status now h
 

@@ -142,7 +142,8 @@ ending front balances burnt =
     texts_append front (shown.FinalTotal balances burnt ∷ shown.Done ∷ [])
     ∙ ap (λ t. texts front ++ (line_text (shown.FinalTotal balances burnt) ++ t)) (append-nil (line_text shown.Done))
 
-sums : Conserves native → (bytes text : List ℕ) (before now : Option (List ℕ)) → Shows (replayed native start (input_lines bytes)) text →
+sums : Conserves native → (bytes text : List ℕ) (before now : Option (List ℕ)) →
+    Shows (replayed native start (input_lines bytes)) text →
     Appends before now text → Conserved bytes before now
 sums law bytes text before now s wrote =
     let adds = law (input_lines bytes) s.lines s.is in

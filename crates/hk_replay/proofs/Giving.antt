@@ -25,7 +25,8 @@ use Rattle.hk_replay.specs.declared.command.Question.{Question}
 use Rattle.hk_replay.specs.declared.command.Task.{Task}
 use Rattle.hk_replay.specs.declared.command.Task.TheVariants.{Check, Run}
 use Rattle.hk_replay.specs.Answers.{number, IsAccepted, IsRunOf, IsRefusal, Accepts, IsReply, Replies}
-use Rattle.hk_replay.specs.Answers.{hook_code, hook_lines, json_lines, replay_lines, unjson_lines, GivesFor, command_of, IsSame, OneAnswer}
+use Rattle.hk_replay.specs.Answers.{hook_code, hook_lines, json_lines, replay_lines, unjson_lines, GivesFor, command_of}
+use Rattle.hk_replay.specs.Answers.{IsSame, OneAnswer}
 use Rattle.hk_replay.specs.VerdictLines.{cbak_text, refused_line}
 use Rattle.hk_replay.specs.Moved.{Answered}
 use Rattle.hk_bound.proofs.Verdicts.{one_refusal, holds_or_refused, one_module_held, one_hash, one_hook_bound}

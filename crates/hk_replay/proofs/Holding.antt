@@ -28,18 +28,17 @@ use Rattle.wa_ops.specs.declared.modules.Module.{Module}
 use Rattle.wa_ops.specs.declared.modules.ModuleExport.{ModuleExport}
 use Rattle.wa_ops.specs.declared.op.Op.{Op}
 use Rattle.wa_ops.specs.declared.op.Op.TheVariants.{BrTable, Load, Store, Number, Float}
-use Rattle.wa_ops.specs.declared.opcode.Form.{Form}
-use Rattle.wa_ops.specs.declared.opcode.Form.TheVariants as forms
 use Rattle.wa_ops.proofs.Parsing.{found_tree}
 use Rattle.wa_ops.proofs.RulesByName.{rules_by_name}
 use Rattle.wa_decode.specs.Grammar.{IsUnsigned, SpellsAll, SpellsBytes, SpellsVector, Then}
-use Rattle.wa_decode.specs.Instructions.{SpellsExpression, SpellsFloat, SpellsOp, SpellsValueType}
+use Rattle.wa_decode.specs.Instructions.{SpellsExpression, SpellsOp, SpellsValueType}
 use Rattle.wa_decode.specs.Modules.{Part, Section, Spells, SpellsCode, SpellsElement, SpellsExport, SpellsFuncType}
 use Rattle.wa_decode.specs.Modules.{SpellsGlobal, SpellsGlobalType, SpellsImport, SpellsLimits}
 use Rattle.wa_decode.specs.Modules.{SpellsLocals, SpellsRange, SpellsSection, SpellsSegment, SpellsTable, header}
 use Rattle.wa_decode.specs.Modules.{body_of as section_body}
 use Rattle.wa_decode.proofs.ExpressionReaders.{items_long, op_some}
 use Rattle.wa_decode.proofs.ModuleReaders.{no_section}
+use Rattle.wa_decode.proofs.Soundness.{float_sound}
 use Rattle.wa_validate.specs.Depths.{body_depth, surface}
 use Rattle.wa_validate.specs.Untyped.{HasDepths}
 use Rattle.wa_validate.specs.declared.depth.Depth.{Depth}
@@ -107,16 +106,6 @@ vector_sound {Spelling = Spelling} items xs bytes few h =
     }
 
 -- ---- of code
-
-float_sound : (form : Form) (opcode : ℕ) (bytes : List ℕ) → form_at opcode ≡ form → SpellsFloat form opcode bytes →
-    IsSoundOp (Float opcode)
-float_sound forms.FloatAccess opcode bytes e h = inl e
-float_sound forms.FloatNumber opcode bytes e h = inr (inl e)
-float_sound forms.FloatConstant opcode bytes e h = inr (inr e)
-float_sound forms.Number opcode bytes e h = absurd h
-float_sound forms.Load opcode bytes e h = absurd h
-float_sound forms.Store opcode bytes e h = absurd h
-float_sound forms.Other opcode bytes e h = absurd h
 
 index_items : Items (IsUnsigned 32) (λ n. Unit {0})
 index_items = record { some = λ n none. none; one = λ n bytes few h. tt }

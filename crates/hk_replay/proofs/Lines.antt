@@ -48,7 +48,8 @@ unjson_answered bytes status before now gave =
 
 pub unjson_stops : {keeps : Unit {0} → Unit {0} → Type 0} {final : Unit {0}} (bytes : List ℕ) (status : Status)
     (left before now : Option (List ℕ)) →
-    Leaves unjson_turn keeps longest_input tt bytes status final left before now → Stops Unjson bytes status left before now
+    Leaves unjson_turn keeps longest_input tt bytes status final left before now →
+    Stops Unjson bytes status left before now
 unjson_stops bytes status left before now leaves =
     each_stops Unjson unjson_turn tt refl (λ bytes text status is ends. (is, ends))
     (λ bytes text close is. is) (λ bytes text is. is) (λ bytes goes. goes) tt bytes status left before now refl leaves

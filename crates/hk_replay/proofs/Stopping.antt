@@ -43,7 +43,8 @@ module _ {S : Type 0} (command : Command) (turn : S → List ℕ → Turn S) (fi
 
   each_left : {keeps : S → S → Type 0} {final : S} (bytes : List ℕ) (status : Status)
       (left before now : Option (List ℕ)) →
-      Leaves turn keeps longest_input first bytes status final left before now → Stops command bytes status left before now
+      Leaves turn keeps longest_input first bytes status final left before now →
+      Stops command bytes status left before now
   each_left bytes status left before now l = record {
     taken = l.taken;
     rest = l.rest;
@@ -65,7 +66,8 @@ module _ {S : Type 0} (command : Command) (turn : S → List ℕ → Turn S) (fi
 
   pub each_stops : {keeps : S → S → Type 0} {final : S} (start : S) (bytes : List ℕ) (status : Status)
       (left before now : Option (List ℕ)) → start ≡ first →
-      Leaves turn keeps longest_input start bytes status final left before now → Stops command bytes status left before now
+      Leaves turn keeps longest_input start bytes status final left before now →
+      Stops command bytes status left before now
   each_stops {keeps} {final} start bytes status left before now is l =
       each_left bytes status left before now
       (subst (λ s. Leaves turn keeps longest_input s bytes status final left before now) is l)
@@ -281,7 +283,8 @@ tells_usage other before now whole front apart = let is : other ≡ Usage = (who
 module _ (command : Command) (text : List ℕ) (status : Status) (bytes : List ℕ) (short : status ≢ TooLong)
     (due : (close : Close) → DueFor command [] close text) where
   -- nothing was taken, and a front of the text was written, if anything was
-  stopped : (result : Status) (left before now : Option (List ℕ)) → left ≡ Some bytes → (w : WroteFront text before now) →
+  stopped : (result : Status) (left before now : Option (List ℕ)) → left ≡ Some bytes →
+      (w : WroteFront text before now) →
       (result ≢ TooLong) → Stops command bytes result left before now
   stopped result left before now told w apart = record {
     taken = [];
@@ -338,7 +341,8 @@ usage_stops command bytes result left before now named told whole front full =
     (at_once Other usage_line Usage bytes (λ no. cc) (λ close. refl) result left before now told whole front full)
 
 -- a demo stops as its command does
-pub demo_stops : (command : Command) (payments : ℕ) (bytes : List ℕ) (result : Status) (left before now : Option (List ℕ)) →
+pub demo_stops : (command : Command) (payments : ℕ) (bytes : List ℕ) (result : Status)
+    (left before now : Option (List ℕ)) →
     Demo payments ≡ command → left ≡ Some bytes →
     ((taken : List ℕ) → Stops (Demo payments) taken result (Some taken) before now) →
     Stops command bytes result left before now

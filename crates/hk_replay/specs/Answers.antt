@@ -97,7 +97,8 @@ pub record IsRunOf (version : ℕ) (code text : List ℕ) : Type 0 where
 
 -- a run's printed count is at most its printed bound
 abbrev pub PrintedCounts : Type 0
-PrintedCounts = (version : ℕ) (code text : List ℕ) (answer : IsRunOf version code text) → answer.count ≤ answer.held.bound_hook
+PrintedCounts =
+    (version : ℕ) (code text : List ℕ) (answer : IsRunOf version code text) → answer.count ≤ answer.held.bound_hook
 
 -- the code is refused in a version, and told so
 pub record IsRefusal (version : ℕ) (code text : List ℕ) : Type 0 where

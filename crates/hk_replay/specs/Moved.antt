@@ -11,7 +11,8 @@ use Rattle.hk_replay.specs.declared.command.Command.TheVariants.{Hook, Replay, D
 use Rattle.hk_replay.specs.declared.command.Question.{Question}
 use Rattle.hk_asm.specs.Assembling.{asm_given}
 use Rattle.hk_demo.specs.Summary.{demo_line}
-use Rattle.hk_replay.specs.Answers.{GivesFor, IsReply, hook_code, hook_lines, json_lines, limit_of, replay_lines, unjson_lines, usage_line}
+use Rattle.hk_replay.specs.Answers.{GivesFor, IsReply, hook_code, hook_lines, json_lines, limit_of, replay_lines}
+use Rattle.hk_replay.specs.Answers.{unjson_lines, usage_line}
 
 -- a text was written that is given with this status
 pub record Answered (command : Command) (bytes : List ℕ) (status : Status) (before now : Option (List ℕ))

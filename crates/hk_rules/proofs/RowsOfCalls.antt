@@ -9,7 +9,8 @@ use Rattle.wa_ops.specs.HookRules.{is_guard}
 use Rattle.wa_ops.specs.Rows.{row_parameters}
 use Rattle.wa_ops.specs.Contexts.{callees}
 
-pub own_row : (rows : List CallNo) (function : ℕ) → is_none (slice_get (callees rows) function) ≡ not (is_some (slice_get rows function))
+pub own_row : (rows : List CallNo) (function : ℕ) →
+    is_none (slice_get (callees rows) function) ≡ not (is_some (slice_get rows function))
 own_row [] function = refl
 own_row (row ∷ rows) zero = refl
 own_row (row ∷ rows) (suc function) = own_row rows function
@@ -22,16 +23,20 @@ guard_of_row row = first (row == 0)
     third true = refl
     third false = refl
 
-    second : (b : Bool) → is_guard (Some (if b then accept else if row == 2 then rollback else host_call row (row_parameters row))) ≡ false
+    second : (b : Bool) →
+        is_guard (Some (if b then accept else if row == 2 then rollback else host_call row (row_parameters row)))
+        ≡ false
     second true = refl
     second false = third (row == 2)
 
-    first : (a : Bool) → is_guard (Some (if a then guard else if row == 1 then accept else if row == 2 then rollback else host_call row (row_parameters row))) ≡ a
+    first : (a : Bool) →
+        is_guard (Some (if a then guard else if row == 1 then accept else if row == 2 then rollback
+        else host_call row (row_parameters row))) ≡ a
     first true = refl
     first false = second (row == 1)
 
-pub guard_row : (rows : List CallNo) (function : ℕ) → is_guard (slice_get (callees rows) function) ≡ option_map_or (λ row. row.0 == 0) (slice_get rows function) false
+pub guard_row : (rows : List CallNo) (function : ℕ) →
+    is_guard (slice_get (callees rows) function) ≡ option_map_or (λ row. row.0 == 0) (slice_get rows function) false
 guard_row [] function = refl
 guard_row (row ∷ rows) zero = guard_of_row row.0
 guard_row (row ∷ rows) (suc function) = guard_row rows function
-

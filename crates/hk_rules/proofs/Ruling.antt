@@ -1,5 +1,6 @@
 -- The test of the rules says what the rules say.
-use Rattle.std.proofs.Common.{ℕ, zero, suc, ◌≡◌, ◌+◌, ◌<◌, ◌≤◌, inl, inr, ◌∙◌, List, [], ◌∷◌, Bool, true, false, Option, Some, None, length, refl, sym, ap, subst, arith}
+use Rattle.std.proofs.Common.{ℕ, zero, suc, ◌≡◌, ◌+◌, ◌<◌, ◌≤◌, inl, inr, ◌∙◌, List, [], ◌∷◌, Bool, true, false, Option}
+use Rattle.std.proofs.Common.{Some, None, length, refl, sym, ap, subst, arith}
 use Rattle.std.proofs.lemmas.Bool.{or_from as neither}
 use Rattle.std.proofs.lemmas.Bool.{or_right as or_back}
 use Rattle.std.proofs.lemmas.Bool.{or_left as or_front}
@@ -35,7 +36,9 @@ unfolding any_below
 found_below zero test i less here = absurd (omega (arith, less))
 found_below (suc n) test i less here =
     elim (leb_tells (i + 1) n) [
-      | inl earlier ↦ let within = earlier.1 in or_back (test n) (any_below n test) (found_below n test i (omega (arith, within)) here)
+      | inl earlier ↦
+          let within = earlier.1 in
+          or_back (test n) (any_below n test) (found_below n test i (omega (arith, within)) here)
       | inr last ↦ let past = last.1 in
           let same : i ≡ n = omega (arith, less, past) in
           or_front (test n) (any_below n test) (subst (λ k. test k ≡ true) same here)
@@ -47,7 +50,8 @@ none_below zero test none = refl
 none_below (suc n) test none = neither (test n) (any_below n test) (none n) (none_below n test none)
 
 none_before : (n : ℕ) (test : ℕ → Bool) → any_below n test ≡ false → (j : ℕ) → j < n → test j ≡ false
-none_before n test none j less = refuted (test j) (λ here. clash (any_below n test) (found_below n test j less here) none)
+none_before n test none j less =
+    refuted (test j) (λ here. clash (any_below n test) (found_below n test j less here) none)
 
 -- the least number of which the test holds
 record HasLeast (test : ℕ → Bool) : Type 0 where
@@ -62,7 +66,11 @@ least_below (suc n) test h = by (any_below n test) refl (λ e. least_below n tes
   where
     by : (b : Bool) → any_below n test ≡ b → (any_below n test ≡ true → HasLeast test) → HasLeast test
     by true e earlier = earlier e
-    by false e earlier = record { number = n; here = or_last (test n) (any_below n test) e h; before = none_before n test e }
+    by false e earlier = record {
+      number = n;
+      here = or_last (test n) (any_below n test) e h;
+      before = none_before n test e;
+    }
 
 -- ---- a rule whose every break is below a number
 
@@ -82,7 +90,8 @@ record IsBelow (size : ℕ) (broken : ℕ → ℕ → Bool) (i : ℕ) : Type 0 w
   pub less : place < size
   pub here : broken i place ≡ true
 
-witnessed : (size : ℕ) (broken : ℕ → ℕ → Bool) → ((i at : ℕ) → broken i at ≡ true → IsBelow size broken i) → Witnessed size broken
+witnessed : (size : ℕ) (broken : ℕ → ℕ → Bool) → ((i at : ℕ) → broken i at ≡ true → IsBelow size broken i) →
+    Witnessed size broken
 witnessed size broken below = record {
   places = λ i at here. let w = below i at here in found_below size (broken i) w.place w.less w.here;
   indices = λ i at here. let w = below i at here in
@@ -90,24 +99,36 @@ witnessed size broken below = record {
 }
 
 -- of the items of a list
-items : {A : Type 0} (size : ℕ) (test : ℕ → A → Bool) (xs : List A) → length xs < size → Witnessed size (λ index at. passes (test index) xs index)
-items {A = A} size test xs few = witnessed size (λ index at. passes (test index) xs index) (λ i at here. by i (slice_get xs i) refl here)
+items : {A : Type 0} (size : ℕ) (test : ℕ → A → Bool) (xs : List A) → length xs < size →
+    Witnessed size (λ index at. passes (test index) xs index)
+items {A = A} size test xs few =
+    witnessed size (λ index at. passes (test index) xs index) (λ i at here. by i (slice_get xs i) refl here)
   where
-    by : (i : ℕ) (o : Option A) → slice_get xs i ≡ o → option_map_or (test i) o false ≡ true → IsBelow size (λ index at. passes (test index) xs index) i
+    by : (i : ℕ) (o : Option A) → slice_get xs i ≡ o → option_map_or (test i) o false ≡ true →
+        IsBelow size (λ index at. passes (test index) xs index) i
     by i None e h = absurd (cc h)
     by i (Some x) e h =
         let within : i < length xs = slice_get_within xs i x e in
-        record { index = omega (arith, within, few); place = 0; less = omega (arith, few); here = ap (λ o. option_map_or (test i) o false) e ∙ h }
+        record {
+          index = omega (arith, within, few);
+          place = 0;
+          less = omega (arith, few);
+          here = ap (λ o. option_map_or (test i) o false) e ∙ h;
+        }
 
 -- of the module
 whole : (size : ℕ) (broken : Bool) → 0 < size → Witnessed size (λ index at. broken)
 whole size broken some = record {
   places = λ i at here. found_below size (λ place. broken) 0 some here;
-  indices = λ i at here. found_below size (λ index. any_below size (λ place. broken)) 0 some (found_below size (λ place. broken) 0 some here);
+  indices =
+      λ i at here.
+      found_below size (λ index. any_below size (λ place. broken)) 0 some
+      (found_below size (λ place. broken) 0 some here);
 }
 
 -- a body is no longer than all bodies together
-within_all : (codes : List Code) (func : ℕ) (code : Code) → slice_get codes func ≡ Some code → length code.ops ≤ sum_by (λ c. length c.ops) codes
+within_all : (codes : List Code) (func : ℕ) (code : Code) → slice_get codes func ≡ Some code →
+    length code.ops ≤ sum_by (λ c. length c.ops) codes
 within_all [] func code e = absurd (cc e)
 within_all (first ∷ codes) zero code e =
     let same : first ≡ code = cc e in
@@ -118,14 +139,18 @@ within_all (first ∷ codes) (suc func) code e =
     let sum = sum_by-cons (λ (c : Code). length c.ops) first codes in omega (arith, more, sum)
 
 -- of the instructions of functions
-instructions : (size : ℕ) (test : List Op → ℕ → Bool) (codes : List Code) → length codes < size → sum_by (λ code. length code.ops) codes < size → Witnessed size (in_code test codes)
-instructions size test codes few short = witnessed size (in_code test codes) (λ func at here. by func at (slice_get codes func) refl here)
+instructions : (size : ℕ) (test : List Op → ℕ → Bool) (codes : List Code) → length codes < size →
+    sum_by (λ code. length code.ops) codes < size → Witnessed size (in_code test codes)
+instructions size test codes few short =
+    witnessed size (in_code test codes) (λ func at here. by func at (slice_get codes func) refl here)
   where
-    by : (func at : ℕ) (o : Option Code) → slice_get codes func ≡ o → option_map_or (λ code. nat_lt at (length code.ops) && test code.ops at) o false ≡ true
+    by : (func at : ℕ) (o : Option Code) → slice_get codes func ≡ o →
+        option_map_or (λ code. nat_lt at (length code.ops) && test code.ops at) o false ≡ true
         → IsBelow size (in_code test codes) func
     by func at None e h = absurd (cc h)
     by func at (Some code) e h =
-        let place : at < length code.ops = ltb-true at (length code.ops) (and_parts (nat_lt at (length code.ops)) (test code.ops at) h).0 in
+        let place : at < length code.ops =
+        ltb-true at (length code.ops) (and_parts (nat_lt at (length code.ops)) (test code.ops at) h).0 in
         let within : func < length codes = slice_get_within codes func code e in
         let most = within_all codes func code e in
         record {
@@ -146,7 +171,8 @@ not_false false e = refl
 not_false true e = absurd (cc e)
 
 kept_back : (size : ℕ) (broken : ℕ → ℕ → Bool) → Witnessed size broken → breaks size broken ≡ false → IsNowhere broken
-kept_back size broken seen none i at = refuted (broken i at) (λ here. clash (breaks size broken) (seen.indices i at here) none)
+kept_back size broken seen none i at =
+    refuted (broken i at) (λ here. clash (breaks size broken) (seen.indices i at here) none)
 
 all_back : (size : ℕ) (rules : List Rule) → AllWitnessed size rules → keeps_all size rules ≡ true → AreKept rules
 unfolding keeps_all
@@ -160,7 +186,8 @@ unfolding keeps_all
 all_forth size [] kept = refl
 all_forth size (rule ∷ rules) kept =
     and_from (not (breaks size rule.broken)) (keeps_all size rules)
-    (not_false (breaks size rule.broken) (none_below size (λ i. any_below size (rule.broken i)) (λ i. none_below size (rule.broken i) (λ at. kept.0 i at))))
+    (not_false (breaks size rule.broken)
+    (none_below size (λ i. any_below size (rule.broken i)) (λ i. none_below size (rule.broken i) (λ at. kept.0 i at))))
     (all_forth size rules kept.1)
 
 -- each rule's breaks are below the module's size
@@ -201,7 +228,10 @@ seen m = (
                                   instructions (size_of m) _ m.codes (omega arith) (omega arith),
                                   (
                                     instructions (size_of m) _ m.codes (omega arith) (omega arith),
-                                    (instructions (size_of m) _ m.codes (omega arith) (omega arith), (instructions (size_of m) _ m.codes (omega arith) (omega arith), tt)),
+                                    (
+                                      instructions (size_of m) _ m.codes (omega arith) (omega arith),
+                                      (instructions (size_of m) _ m.codes (omega arith) (omega arith), tt),
+                                    ),
                                   ),
                                 ),
                               ),
@@ -224,10 +254,13 @@ seen m = (
 -- ---- the first rule that is broken
 
 -- no place of this index
-none_there : (size : ℕ) (broken : ℕ → ℕ → Bool) (i : ℕ) → Witnessed size broken → any_below size (broken i) ≡ false → (at : ℕ) → broken i at ≡ false
-none_there size broken i seen none at = refuted (broken i at) (λ here. clash (any_below size (broken i)) (seen.places i at here) none)
+none_there : (size : ℕ) (broken : ℕ → ℕ → Bool) (i : ℕ) → Witnessed size broken → any_below size (broken i) ≡ false →
+    (at : ℕ) → broken i at ≡ false
+none_there size broken i seen none at =
+    refuted (broken i at) (λ here. clash (any_below size (broken i)) (seen.places i at here) none)
 
-fault_found : (size : ℕ) (rule : Rule) → Witnessed size rule.broken → breaks size rule.broken ≡ true → (found : RuleFault) × IsFault rule found
+fault_found : (size : ℕ) (rule : Rule) → Witnessed size rule.broken → breaks size rule.broken ≡ true →
+    (found : RuleFault) × IsFault rule found
 fault_found size rule seen h =
     let index = least_below size (λ i. any_below size (rule.broken i)) h in
     let place = least_below size (rule.broken index.number) index.here in (
@@ -240,17 +273,20 @@ fault_found size rule seen h =
       },
     )
   where
-    earlier : (i at : ℕ) → ((j : ℕ) → j < i → any_below size (rule.broken j) ≡ false) → ((p : ℕ) → p < at → rule.broken i p ≡ false)
+    earlier : (i at : ℕ) → ((j : ℕ) → j < i → any_below size (rule.broken j) ≡ false) →
+        ((p : ℕ) → p < at → rule.broken i p ≡ false)
         → (j p : ℕ) → Precedes j p i at → rule.broken j p ≡ false
     earlier i at indices places j p (inl less) = none_there size rule.broken j seen (indices j less) p
     earlier i at indices places j p (inr same) = ap (λ k. rule.broken k p) same.0 ∙ places p same.1
 
-first_found : (size : ℕ) (rules : List Rule) → AllWitnessed size rules → keeps_all size rules ≡ false → (found : RuleFault) × IsFirst rules found
+first_found : (size : ℕ) (rules : List Rule) → AllWitnessed size rules → keeps_all size rules ≡ false →
+    (found : RuleFault) × IsFirst rules found
 unfolding keeps_all
 first_found size [] seen h = absurd (cc h)
 first_found size (rule ∷ rules) seen h = by (breaks size rule.broken) refl (λ k. first_found size rules seen.1 k) h
   where
-    by : (b : Bool) → breaks size rule.broken ≡ b → (keeps_all size rules ≡ false → (found : RuleFault) × IsFirst rules found)
+    by : (b : Bool) → breaks size rule.broken ≡ b →
+        (keeps_all size rules ≡ false → (found : RuleFault) × IsFirst rules found)
         → (not b && keeps_all size rules) ≡ false → (found : RuleFault) × IsFirst (rule ∷ rules) found
     by true e later k = let f = fault_found size rule seen.0 e in (f.0, inl f.1)
     by false e later k = let f = later k in (f.0, inr (kept_back size rule.broken seen.0 e, f.1))

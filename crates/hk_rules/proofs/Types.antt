@@ -8,7 +8,8 @@ pub other_length : (xs ys : List ValueType) → (length xs ≡ length ys → ⊥
 other_length [] [] differ = absurd (differ refl)
 other_length [] (y ∷ ys) differ = refl
 other_length (x ∷ xs) [] differ = refl
-other_length (x ∷ xs) (y ∷ ys) differ = none (is_same_type x y) (are_types xs ys) (other_length xs ys (λ e. differ (ap suc e)))
+other_length (x ∷ xs) (y ∷ ys) differ =
+    none (is_same_type x y) (are_types xs ys) (other_length xs ys (λ e. differ (ap suc e)))
   where
     none : (a b : Bool) → false ≡ b → false ≡ (a && b)
     none true b e = e

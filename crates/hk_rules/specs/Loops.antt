@@ -18,12 +18,15 @@ abbrev pub loop_guards : Sequence → ℕ → List LoopGuard
 loop_guards done at = []
 loop_guards (plain op rest) at = loop_guards rest (at + 1)
 loop_guards (block result body rest) at = loop_guards body (at + 1) ++ loop_guards rest (behind body (at + 1) + 1)
-loop_guards (loop result body rest) at = loop_guard body at ∷ loop_guards body (at + 1) ++ loop_guards rest (behind body (at + 1) + 1)
+loop_guards (loop result body rest) at =
+    loop_guard body at ∷ loop_guards body (at + 1) ++ loop_guards rest (behind body (at + 1) + 1)
 loop_guards (if_then result body rest) at = loop_guards body (at + 1) ++ loop_guards rest (behind body (at + 1) + 1)
 loop_guards (if_else result first second rest) at =
-    loop_guards first (at + 1) ++ loop_guards second (behind first (at + 1) + 1) ++ loop_guards rest (behind second (behind first (at + 1) + 1) + 1)
+    loop_guards first (at + 1) ++ loop_guards second (behind first (at + 1) + 1) ++
+    loop_guards rest (behind second (behind first (at + 1) + 1) + 1)
 
--- For each instruction of a sequence, with these entries behind it: the number of the innermost loop to whose body it belongs.
+-- For each instruction of a sequence, with these entries behind it: the number of the innermost loop to whose body it
+-- belongs.
 -- The sequence stands in the body of the loop `around`, and so many loops begin before it.
 -- The instruction `loop` belongs to the region around it, and the loop's `end` to its body.
 abbrev pub innermost : Option ℕ → ℕ → Sequence → List (Option ℕ) → List (Option ℕ)
@@ -32,7 +35,9 @@ innermost around count (plain op rest) after = around ∷ innermost around count
 innermost around count (block result body rest) after =
     around ∷ innermost around count body (around ∷ innermost around (count + length (loops 0 body)) rest after)
 innermost around count (loop result body rest) after =
-    around ∷ innermost (Some count) (count + 1) body (Some count ∷ innermost around (count + 1 + length (loops 0 body)) rest after)
+    around ∷
+    innermost (Some count) (count + 1) body
+    (Some count ∷ innermost around (count + 1 + length (loops 0 body)) rest after)
 innermost around count (if_then result body rest) after =
     around ∷ innermost around count body (around ∷ innermost around (count + length (loops 0 body)) rest after)
 innermost around count (if_else result first second rest) after =
@@ -42,7 +47,11 @@ innermost around count (if_else result first second rest) after =
 
 -- of a function's body, whose own `end` belongs to no loop
 abbrev pub body_guards : Sequence → FunctionGuards
-body_guards body = record { loops = loop_guards body 0; innermost = innermost None 0 body (None ∷ []); spared = spared body (0 ∷ []) }
+body_guards body = record {
+  loops = loop_guards body 0;
+  innermost = innermost None 0 body (None ∷ []);
+  spared = spared body (0 ∷ []);
+}
 
 -- of each function, where its code is a tree
 abbrev pub code_guards : List Code → List (Option FunctionGuards)

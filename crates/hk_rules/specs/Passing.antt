@@ -37,7 +37,11 @@ others_around (around ∷ more) = more
 -- behind an instruction
 abbrev pub passed : Nesting → Open → Open
 passed (opens_block result) here = record { inner = here.inner; around = here.inner ∷ here.around; count = here.count }
-passed (opens_loop result) here = record { inner = Some here.count; around = here.inner ∷ here.around; count = here.count + 1 }
+passed (opens_loop result) here = record {
+  inner = Some here.count;
+  around = here.inner ∷ here.around;
+  count = here.count + 1;
+}
 passed (opens_if result) here = record { inner = here.inner; around = here.inner ∷ here.around; count = here.count }
 passed turns here = here
 passed closes here = record { inner = first_around here.around; around = others_around here.around; count = here.count }

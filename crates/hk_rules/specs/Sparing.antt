@@ -1,10 +1,13 @@
--- What the cheaper arm of each `if` costs, which version 0 of the bound counts and version 1 spares (this project's own).
+-- What the cheaper arm of each `if` costs, which version 0 of the bound counts and version 1 spares (this project's
+-- own).
 use Rattle.std.specs.Prelude.{ℕ, ◌+◌, max, min, List, [], ◌∷◌, Bool, true, false, if◌then◌else◌}
 use Rattle.wa_ops.specs.Bound.{cost}
-use Rattle.wa_ops.specs.Sequences.{Sequence, done, plain, block, loop, if_then, if_else, Nesting, opens_block, opens_loop, opens_if, turns, closes, stands}
+use Rattle.wa_ops.specs.Sequences.{Sequence, done, plain, block, loop, if_then, if_else, Nesting, opens_block}
+use Rattle.wa_ops.specs.Sequences.{opens_loop, opens_if, turns, closes, stands}
 use Rattle.hk_rules.specs.declared.sparing.OpenArm.{OpenArm}
 
--- For each instruction of a sequence, with these entries behind it: of an `if` with two arms what the cheaper one costs, and 0 of
+-- For each instruction of a sequence, with these entries behind it: of an `if` with two arms what the cheaper one
+-- costs, and 0 of
 -- every other.
 abbrev pub spared : Sequence → List ℕ → List ℕ
 spared done after = after
@@ -28,11 +31,14 @@ outer_arms (arm ∷ arms) = arms
 
 -- the arm that is read costs more
 abbrev pub dearer : ℕ → List OpenArm → List OpenArm
-dearer more arms = record { is_first = (innermost_arm arms).is_first; cost = more + (innermost_arm arms).cost } ∷ outer_arms arms
+dearer more arms =
+    record { is_first = (innermost_arm arms).is_first; cost = more + (innermost_arm arms).cost } ∷ outer_arms arms
 
 -- at an `if` whose first arm, or only arm, is this one
 abbrev pub at_if : OpenArm → List OpenArm → List OpenArm
-at_if arm arms = if arm.is_first then dearer (2 + max arm.cost (innermost_arm arms).cost) (outer_arms arms) else dearer (2 + arm.cost) arms
+at_if arm arms =
+    if arm.is_first then dearer (2 + max arm.cost (innermost_arm arms).cost) (outer_arms arms)
+    else dearer (2 + arm.cost) arms
 
 abbrev pub saving_at_if : OpenArm → List OpenArm → ℕ
 saving_at_if arm arms = if arm.is_first then min arm.cost (innermost_arm arms).cost else 0

@@ -66,7 +66,8 @@ fn count_of_kind(imported: usize, module: &Module, kind: u8) -> usize
 
 /// Whether the function with this number takes an i32 and gives an i64.
 fn is_entry_type(module: &Module, func: usize) -> bool
-    ensures entry { result ≡ option_map_or (rule.is_function_type (I32 ∷ []) I64) (function_type «module».now func) false }
+    ensures entry { result
+        ≡ option_map_or (rule.is_function_type (I32 ∷ []) I64) (function_type «module».now func) false }
 {
     let Some(index) = module.functions.as_slice().get(func) else {
         return false;
@@ -113,7 +114,10 @@ fn has_bad_exports(imported: usize, module: &Module, repeats: bool) -> bool
     requires imported { imported < 2 ^ 32 }
     requires repeats { repeats ≡ rule.has_repeats «module».now.exports }
     requires sound { IsSound «module».now }
-    ensures bad { result ≡ (rule.has_repeats «module».now.exports || (not (list_any rule.is_hook «module».now.exports) || list_any (rule.is_bad_export imported «module».now) «module».now.exports)) }
+    ensures bad { result
+        ≡ (rule.has_repeats «module».now.exports ||
+        (not (list_any rule.is_hook «module».now.exports) ||
+        list_any (rule.is_bad_export imported «module».now) «module».now.exports)) }
 {
     let exports = module.exports.as_slice();
     repeats || !has_hook(exports) || has_bad_export(imported, module, exports)
@@ -123,7 +127,11 @@ fn check_exports(imported: usize, module: &Module, repeats: bool) -> Result<(), 
     requires imported { imported < 2 ^ 32 }
     requires repeats { repeats ≡ rule.has_repeats «module».now.exports }
     requires sound { IsSound «module».now }
-    ensures rule { Judges (rule.module_rule fault.BadExport (rule.has_repeats «module».now.exports || (not (list_any rule.is_hook «module».now.exports) || list_any (rule.is_bad_export imported «module».now) «module».now.exports)) ∷ []) result }
+    ensures rule { Judges
+        (rule.module_rule fault.BadExport
+        (rule.has_repeats «module».now.exports ||
+        (not (list_any rule.is_hook «module».now.exports) ||
+        list_any (rule.is_bad_export imported «module».now) «module».now.exports)) ∷ []) result }
 {
     let broken = has_bad_exports(imported, module, repeats);
     if broken {
@@ -167,7 +175,8 @@ fn check_elements(elements: &Items<Element>) -> Result<(), RuleFault>
     Ok(())
 }
 
-/// The rules about exports, the start, elements and data, where so many functions are imported, and where two exports have one
+/// The rules about exports, the start, elements and data, where so many functions are imported, and where two exports
+/// have one
 /// name or not.
 pub(crate) fn check_links(imported: usize, module: &Module, repeats: bool) -> Result<(), RuleFault>
     requires imported { imported < 2 ^ 32 }

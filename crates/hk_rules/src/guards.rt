@@ -25,7 +25,8 @@ pub struct FunctionGuards {
     pub loops: Items<LoopGuard>,
     /// For each instruction, the number of the innermost loop to whose body it belongs.
     pub innermost: Items<Option<u32>>,
-    /// For each instruction, what version 1 of the bound doesn't count: at an `if` with two arms what the cheaper one costs.
+    /// For each instruction, what version 1 of the bound doesn't count: at an `if` with two arms what the cheaper one
+    /// costs.
     pub spared: Items<u32>,
 }
 

@@ -82,7 +82,8 @@ pub(crate) fn check_imports(
 ) -> Result<Items<CallNo>, RuleFault>
     requires counted { length imports.now < 2 ^ 32 }
     ensures rows { IfOk result (λ rows. AreRows types.now imports.now rows) }
-    ensures first { IfErr result (λ found. found ≢ RuleFault.NoMemory → rule.IsFirst (rule.import_rules types.now imports.now) found) }
+    ensures first { IfErr result
+        (λ found. found ≢ RuleFault.NoMemory → rule.IsFirst (rule.import_rules types.now imports.now) found) }
 {
     let mut rows = Items::new(alloc);
     for (index, import) in imports.iter().enumerate() {

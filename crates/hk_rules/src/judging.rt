@@ -34,7 +34,8 @@ fn check_others(module: &Module, rows: &[CallNo], repeats: bool) -> Result<(), R
 fn import_rows(alloc: Global, module: &Module) -> Result<Items<CallNo>, RuleFault>
     requires sound { IsSound «module».now }
     ensures rows { IfOk result (λ rows. AreRows «module».now.types «module».now.imports rows) }
-    ensures first { IfErr result (λ found. found ≢ RuleFault.NoMemory → rule.IsFirst (rule.import_rules «module».now.types «module».now.imports) found) }
+    ensures first { IfErr result (λ found.
+        found ≢ RuleFault.NoMemory → rule.IsFirst (rule.import_rules «module».now.types «module».now.imports) found) }
 {
     check_imports(alloc, module.types.as_slice(), module.imports.as_slice())
 }
@@ -64,7 +65,8 @@ fn guards_of(alloc: Global, module: &Module, rows: Items<CallNo>) -> Result<Guar
 pub fn rules(alloc: Global, module: &Module) -> Result<Guards, RuleFault>
     requires sound { IsSound «module».now }
     ensures ruled { OnOk result (rule.IsRuled «module».now) }
-    ensures first { IfErr result (λ found. found ≢ RuleFault.NoMemory → rule.IsFirst (rule.hook_rules «module».now) found) }
+    ensures first { IfErr result
+        (λ found. found ≢ RuleFault.NoMemory → rule.IsFirst (rule.hook_rules «module».now) found) }
     ensures guards { IfOk result (λ guards. AreGuards «module».now guards) }
 {
     check_floats(module)?;

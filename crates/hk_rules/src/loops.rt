@@ -34,7 +34,8 @@ fn number_at(ops: &[Op], place: usize) -> Option<u32>
 /// The loop at this place, with the numbers of its guard.
 fn guard_at(ops: &[Op], place: usize) -> LoopGuard
     requires place { place < 2 ^ 32 }
-    ensures guard { result ≡ guard_by place (number_in (slice_get ops.now (place + 1))) (number_in (slice_get ops.now (place + 2))) }
+    ensures guard { result
+        ≡ guard_by place (number_in (slice_get ops.now (place + 1))) (number_in (slice_get ops.now (place + 2))) }
 {
     let op = place as u32;
     match (number_at(ops, place + 1), number_at(ops, place + 2)) {
@@ -97,7 +98,8 @@ impl OpenLoops {
     }
 
     fn open(&mut self, inner: Option<u32>) -> Result<(), NoMemory>
-        ensures opened { OnOk result (self.new ≡ record { inner = inner; around = self.old.inner ∷ self.old.around; count = self.old.count }) }
+        ensures opened { OnOk result
+            (self.new ≡ record { inner = inner; around = self.old.inner ∷ self.old.around; count = self.old.count }) }
     {
         self.around.push(self.inner)?;
         self.inner = inner;
@@ -106,7 +108,13 @@ impl OpenLoops {
 
     fn open_loop(&mut self) -> Result<(), NoMemory>
         requires few { self.old.count + 1 < 2 ^ 32 }
-        ensures opened { OnOk result (self.new ≡ record { inner = Some self.old.count; around = self.old.inner ∷ self.old.around; count = self.old.count + 1 }) }
+        ensures opened { OnOk result
+            (self.new
+            ≡ record {
+              inner = Some self.old.count;
+              around = self.old.inner ∷ self.old.around;
+              count = self.old.count + 1;
+            }) }
     {
         self.open(Some(self.count))?;
         self.count += 1;
@@ -114,7 +122,12 @@ impl OpenLoops {
     }
 
     fn close(&mut self)
-        ensures closed { self.new ≡ record { inner = first_around self.old.around; around = others_around self.old.around; count = self.old.count } }
+        ensures closed { self.new
+            ≡ record {
+              inner = first_around self.old.around;
+              around = others_around self.old.around;
+              count = self.old.count;
+            } }
     {
         self.inner = self.around.pop().unwrap_or(None);
     }
@@ -140,7 +153,8 @@ impl OpenLoops {
 /// For each instruction of a body, the number of the innermost loop to whose body it belongs.
 fn innermost_of(alloc: Global, ops: &[Op]) -> Result<Items<Option<u32>>, NoMemory>
     requires counted { IsCounted ops.now }
-    ensures innermost { IfOk result (λ found. (body : Sequence) → Reads ops.now body → found ≡ innermost None 0 body (None ∷ [])) }
+    ensures innermost { IfOk result
+        (λ found. (body : Sequence) → Reads ops.now body → found ≡ innermost None 0 body (None ∷ [])) }
 {
     let mut found = Items::new(alloc);
     let mut open = OpenLoops::new(alloc);

@@ -143,7 +143,9 @@ fn are_bad_memories(memories: &Items<Limits>) -> bool
 }
 
 fn check_tables(tables: &Items<Limits>) -> Result<(), RuleFault>
-    ensures rule { Judges (rule.module_rule fault.BadTable (nat_lt 1 (length tables.now) || list_any rule.is_bad_table tables.now) ∷ []) result }
+    ensures rule { Judges
+        (rule.module_rule fault.BadTable (nat_lt 1 (length tables.now) || list_any rule.is_bad_table tables.now) ∷ [])
+        result }
 {
     let broken = are_bad_tables(tables);
     if broken {
@@ -153,7 +155,9 @@ fn check_tables(tables: &Items<Limits>) -> Result<(), RuleFault>
 }
 
 fn check_memories(memories: &Items<Limits>) -> Result<(), RuleFault>
-    ensures rule { Judges (rule.module_rule fault.BadMemory (nat_lt 1 (length memories.now) || list_any rule.is_bad_memory memories.now) ∷ []) result }
+    ensures rule { Judges
+        (rule.module_rule fault.BadMemory (nat_lt 1 (length memories.now) || list_any rule.is_bad_memory memories.now) ∷
+        []) result }
 {
     let broken = are_bad_memories(memories);
     if broken {

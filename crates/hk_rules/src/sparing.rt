@@ -1,4 +1,5 @@
-ghost use Rattle.hk_rules.specs.Sparing.{arms_before, at_if, dearer, innermost_arm, load, outer_arms, saving, saving_at_if, spared};
+ghost use Rattle.hk_rules.specs.Sparing.{arms_before, at_if, dearer, innermost_arm, load, outer_arms, saving};
+ghost use Rattle.hk_rules.specs.Sparing.{saving_at_if, spared};
 ghost use Rattle.std.specs.Prelude.{◌≡◌, ◌+◌, ◌∷◌, ◌<◌, ◌^◌, [], IfOk, OnOk, false};
 ghost use Rattle.wa_ops.specs.Sequences.{IsNested, Reads, Sequence, nesting};
 ghost use Rattle.wa_ops.specs.Soundness.{IsCounted};
@@ -7,7 +8,8 @@ use std::alloc::Global;
 use std::marker::Model;
 use wa_ops::{Items, NoMemory, Op};
 
-/// A region whose instructions are read from the last: whether it is an `if`'s first arm, and what those read so far cost.
+/// A region whose instructions are read from the last: whether it is an `if`'s first arm, and what those read so far
+/// cost.
 #[derive(Clone, Copy)]
 pub(crate) struct OpenArm {
     is_first: bool,
@@ -109,7 +111,8 @@ fn saving(op: &Op, arms: &mut OpenArms) -> Result<u32, NoMemory>
     Ok(0)
 }
 
-/// For each instruction of a body what the bound of version 1 spares at it: at an `if` with two arms what the cheaper one costs,
+/// For each instruction of a body what the bound of version 1 spares at it: at an `if` with two arms what the cheaper
+/// one costs,
 /// at every other nothing.
 pub(crate) fn spared_of(alloc: Global, ops: &[Op]) -> Result<Items<u32>, NoMemory>
     requires nested { IsNested ops.now }

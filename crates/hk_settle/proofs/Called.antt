@@ -1,5 +1,6 @@
 -- What a callback leaves, and what it tells.
-use Rattle.std.proofs.Common.{◌≡◌, ◌∙◌, ℕ, ◌+◌, ◌≤◌, List, ◌∷◌, ◌++◌, length, length-append, drop, arith, refl, subst, sym, ap, Some}
+use Rattle.std.proofs.Common.{◌≡◌, ◌∙◌, ℕ, ◌+◌, ◌≤◌, List, ◌∷◌, ◌++◌, length, length-append, drop, arith, refl, subst}
+use Rattle.std.proofs.Common.{sym, ap, Some}
 use Rattle.hk_base.specs.declared.ids.AccountId.{AccountId}
 use Rattle.hk_emit.specs.declared.emission.Emission.{Emission}
 use Rattle.hk_lines.specs.declared.output_line.OutputLine.{OutputLine}
@@ -139,7 +140,8 @@ module _ (ledger : LedgerValue) (number : ℕ) (w : Waiting) (header : w.setting
       ∙ ap (defined.settled_entry e ledger number) (sym waits.there)
 
 -- what an answer says of the callback on a copy whose keys are no longer listed
-pub means_so : (ledger : LedgerValue) (w : Waiting) (account : AccountId) (word : Settlement) (overlay copy after : Writes)
+pub means_so : (ledger : LedgerValue) (w : Waiting) (account : AccountId) (word : Settlement)
+    (overlay copy after : Writes)
     (es earlier : List Emission) (slice : List Emission) (told : ℕ) (end : declared.ChainEnd) (x : declared.ChainEnd) →
     copy ≡ overlay → after ≡ writes.relisted copy → earlier ≡ slice → slice ≡ es → told ≡ argument word → end ≡ x →
     EndMeans ledger.entries

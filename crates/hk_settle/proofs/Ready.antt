@@ -1,5 +1,6 @@
 -- What waits in the queue reads as its transaction, and may be performed.
-use Rattle.std.proofs.Common.{◌≡◌, ◌∙◌, ℕ, ◌+◌, ◌<◌, ◌≤◌, ◌^◌, Bool, true, false, List, length, arith, refl, sym, ap, subst, Option, Some, None}
+use Rattle.std.proofs.Common.{◌≡◌, ◌∙◌, ℕ, ◌+◌, ◌<◌, ◌≤◌, ◌^◌, Bool, true, false, List, length, arith, refl, sym, ap}
+use Rattle.std.proofs.Common.{subst, Option, Some, None}
 use Rattle.std.proofs.Common.{nat_lt, if◌then◌else◌}
 use Rattle.std.specs.Option.{option_and_then, unwrap_or}
 use Rattle.std.specs.FinMap.{get}
@@ -127,7 +128,8 @@ pub record IsThere (ledger : LedgerValue) (number : ℕ) : Type 0 where
   pub callback : Option AccountId
   pub at : get ledger.entries (key.Emitted number) ≡ Some (entry.Emitted blob hash first last callback)
 
-there_by : (ledger : LedgerValue) (number : ℕ) (found : Option Entry) → get ledger.entries (key.Emitted number) ≡ found →
+there_by : (ledger : LedgerValue) (number : ℕ) (found : Option Entry) →
+    get ledger.entries (key.Emitted number) ≡ found →
     passes (is_due ledger.header.seq) found ≡ true → IsThere ledger number
 there_by ledger number None at due = cc
 there_by ledger number (Some (entry.Emitted blob hash first last callback)) at due = record {

@@ -85,7 +85,9 @@ module _ (ledger : LedgerValue) (from next : ℕ) (ahead : Ahead ledger from nex
           let here : passes (is_due ledger.header.seq) (get ledger.entries (key.Emitted number)) ≡ false =
           ap (passes (is_due ledger.header.seq)) found.there ∙ not in
           let bad : false ≡ true =
-          sym here ∙ ap (λ m. passes (is_due ledger.header.seq) (get ledger.entries (key.Emitted m))) (sym r) ∙ due in cc
+          sym here
+          ∙ ap (λ m. passes (is_due ledger.header.seq) (get ledger.entries (key.Emitted m))) (sym r)
+          ∙ due in cc
       at_most n low high Greater r due = absurd (omega (arith, r, high))
 
   -- no number stands from here on
@@ -98,7 +100,8 @@ module _ (ledger : LedgerValue) (from next : ℕ) (ahead : Ahead ledger from nex
       either Greater r = nothing_due n (none n (omega (arith, r))) due
 
   -- what is found is of no other kind, or of one behind all numbers
-  other_behind : (k : Key) (x : Entry) → IsFound k x → ((number : ℕ) → k ≡ key.Emitted number → ⊥) → NoneFrom ledger from
+  other_behind : (k : Key) (x : Entry) → IsFound k x → ((number : ℕ) → k ≡ key.Emitted number → ⊥) →
+      NoneFrom ledger from
   other_behind (key.Other bytes) x found not =
       none_behind (λ n h. found.none_before (key.Emitted n) (from_number next n h) refl)
   other_behind (key.Emitted number) x found not = absurd (not number refl)

@@ -1,5 +1,6 @@
 -- Slots as parts of kept bytes, which several of them share.
-use Rattle.std.specs.Prelude.{ℕ, ◌+◌, ◌<◌, ◌≤◌, ◌^◌, ◌==◌, Bool, false, List, [], length, map, All, slice_get, Option, Some, unwrap_or, option_map, IfSome, IsTrue}
+use Rattle.std.specs.Prelude.{ℕ, ◌+◌, ◌<◌, ◌≤◌, ◌^◌, ◌==◌, Bool, false, List, [], length, map, All, slice_get, Option}
+use Rattle.std.specs.Prelude.{Some, unwrap_or, option_map, IfSome, IsTrue}
 use Rattle.std.specs.Option.{option_map_or}
 use Rattle.xo_fields.specs.declared.field.FieldId.{FieldId}
 use Rattle.xo_list.specs.declared.span.Span.{Span}
@@ -18,7 +19,11 @@ slot_of blobs p = record { field = p.field; bytes = part (blob_at blobs p.blob) 
 
 -- a part of a part
 abbrev pub inner : Part → FieldId → Span → Part
-inner whole field span = record { field = Some field; blob = whole.blob; span = record { from = whole.span.from + span.from; to = whole.span.from + span.to } }
+inner whole field span = record {
+  field = Some field;
+  blob = whole.blob;
+  span = record { from = whole.span.from + span.from; to = whole.span.from + span.to };
+}
 
 -- the part of a slot that is asked for
 abbrev pub part_of : Step → Slot → Slotted Slot

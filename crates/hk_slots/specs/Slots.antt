@@ -1,11 +1,15 @@
--- Slots: numbered places from which a hook reads objects and their parts (this project's own, after the Hooks documentation, "Slots").
-use Rattle.std.specs.Prelude.{◌≡◌, ℕ, ◌+◌, ◌-◌, ◌==◌, Bool, true, false, not, nat_lt, List, [], length, replicate, slice_get, slice_set, Option, Some, None, is_none, unwrap_or, ok_or, option_map, position, Result, Ok, Err, if◌then◌else◌}
+-- Slots: numbered places from which a hook reads objects and their parts (this project's own, after the Hooks
+-- documentation, "Slots").
+use Rattle.std.specs.Prelude.{◌≡◌, ℕ, ◌+◌, ◌-◌, ◌==◌, Bool, true, false, not, nat_lt, List, [], length, replicate}
+use Rattle.std.specs.Prelude.{slice_get, slice_set, Option, Some, None, is_none, unwrap_or, ok_or, option_map, position}
+use Rattle.std.specs.Prelude.{Result, Ok, Err, if◌then◌else◌}
 use Rattle.std.specs.Option.{option_map_or, option_flatten}
 use Rattle.xo_fields.specs.declared.field.FieldId.{FieldId}
 use Rattle.xo_list.specs.Item.{Item, lookup}
 use Rattle.hk_reading.specs.Parsing.{fields_of, elements_of}
 use Rattle.hk_slots.specs.declared.fault.SlotFault.{SlotFault}
-use Rattle.hk_slots.specs.declared.fault.SlotFault.TheVariants.{BadNumber, DoesntExist, NotAnObject, NotAnArray, NoFreeSlots, NoMemory}
+use Rattle.hk_slots.specs.declared.fault.SlotFault.TheVariants.{BadNumber, DoesntExist, NotAnObject, NotAnArray}
+use Rattle.hk_slots.specs.declared.fault.SlotFault.TheVariants.{NoFreeSlots, NoMemory}
 
 -- what a slot shows: bytes, and the field whose value they are. An object that was put there whole has no field.
 pub record Slot : Type 0 where

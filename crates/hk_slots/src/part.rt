@@ -66,7 +66,8 @@ pub(crate) fn is_array(field: Option<FieldId>) -> bool
 /// The part that is a field's value.
 fn subfield_in(blobs: &[Items<u8>], whole: &Part, field: FieldId) -> Result<Part, SlotFault>
     requires { IsPart blobs.now whole.now }
-    ensures part { MatchResult result (λ p. subfield_of field (slot_of blobs.now whole.now) ≡ Ok (slot_of blobs.now p)) (λ fault. subfield_of field (slot_of blobs.now whole.now) ≡ Err fault) }
+    ensures part { MatchResult result (λ p. subfield_of field (slot_of blobs.now whole.now) ≡ Ok (slot_of blobs.now p))
+        (λ fault. subfield_of field (slot_of blobs.now whole.now) ≡ Err fault) }
     ensures fits { MatchResult result (λ p. IsPart blobs.now p) (λ fault. fault ≡ SlotFault.NoMemory → ⊥) }
 {
     more_room();
@@ -82,7 +83,8 @@ fn subfield_in(blobs: &[Items<u8>], whole: &Part, field: FieldId) -> Result<Part
 /// The part that is an element's contents.
 fn element_in(blobs: &[Items<u8>], whole: &Part, index: u32) -> Result<Part, SlotFault>
     requires { IsPart blobs.now whole.now }
-    ensures part { MatchResult result (λ p. element_of index (slot_of blobs.now whole.now) ≡ Ok (slot_of blobs.now p)) (λ fault. element_of index (slot_of blobs.now whole.now) ≡ Err fault) }
+    ensures part { MatchResult result (λ p. element_of index (slot_of blobs.now whole.now) ≡ Ok (slot_of blobs.now p))
+        (λ fault. element_of index (slot_of blobs.now whole.now) ≡ Err fault) }
     ensures fits { MatchResult result (λ p. IsPart blobs.now p) (λ fault. fault ≡ SlotFault.NoMemory → ⊥) }
 {
     more_room();
@@ -98,7 +100,8 @@ fn element_in(blobs: &[Items<u8>], whole: &Part, index: u32) -> Result<Part, Slo
 /// The field of an array's element, and where its contents stand, without header and end mark.
 fn contents_at(bytes: &[u8], index: u32) -> Option<(FieldId, Span)>
     requires { HasElements bytes.now }
-    ensures found { (elements : List Item) → IsArray elements bytes.now → slice_get elements index ≡ option_map (item_of bytes.now) result }
+    ensures found { (elements : List Item) → IsArray elements bytes.now →
+        slice_get elements index ≡ option_map (item_of bytes.now) result }
     ensures within { IfSome result (InRange bytes.now) }
 {
     one_header_read();
@@ -121,7 +124,8 @@ fn contents_at(bytes: &[u8], index: u32) -> Option<(FieldId, Span)>
 /// The part that is asked for.
 pub(crate) fn part_in(blobs: &[Items<u8>], whole: &Part, step: Step) -> Result<Part, SlotFault>
     requires { IsPart blobs.now whole.now }
-    ensures part { MatchResult result (λ p. part_of step (slot_of blobs.now whole.now) ≡ Ok (slot_of blobs.now p)) (λ fault. part_of step (slot_of blobs.now whole.now) ≡ Err fault) }
+    ensures part { MatchResult result (λ p. part_of step (slot_of blobs.now whole.now) ≡ Ok (slot_of blobs.now p))
+        (λ fault. part_of step (slot_of blobs.now whole.now) ≡ Err fault) }
     ensures fits { MatchResult result (λ p. IsPart blobs.now p) (λ fault. fault ≡ SlotFault.NoMemory → ⊥) }
 {
     match step {

@@ -1,6 +1,7 @@
 //! The slots of one execution.
 ghost use Rattle.std.specs.Prelude.{◌≡◌, ◌<◌, ◌^◌, length, Ok, Err, MatchResult};
-ghost use Rattle.hk_slots.specs.Slots.{SlotMap, no_slots, bytes_at, size_at, kind_at, count_at, cleared, with_object, with_subfield, with_element, with_part, Answers, AnswersUnless};
+ghost use Rattle.hk_slots.specs.Slots.{SlotMap, no_slots, bytes_at, size_at, kind_at, count_at, cleared, with_object};
+ghost use Rattle.hk_slots.specs.Slots.{with_subfield, with_element, with_part, Answers, AnswersUnless};
 ghost use Rattle.hk_slots.specs.Part.{part_of};
 ghost use Rattle.xo_list.specs.Value.{HasFields};
 
@@ -44,7 +45,8 @@ impl Slots {
         }
     }
 
-    /// Puts an object into a slot, and answers its number. The target 0 is the lowest free slot; a taken slot is overwritten.
+    /// Puts an object into a slot, and answers its number. The target 0 is the lowest free slot; a taken slot is
+    /// overwritten.
     #[tactic(auto, unfolding(crate::specs::Slots::with_object))]
     pub fn set(&mut self, slot: u32, blob: &[u8]) -> Result<u32, SlotFault>
         requires object { HasFields blob.now }
@@ -102,7 +104,8 @@ impl Slots {
 
     /// The bytes in a slot. Takes no memory.
     pub fn take(&self, slot: u32) -> Result<&[u8], SlotFault>
-        ensures take { MatchResult result (λ bytes. bytes_at self.now slot ≡ Ok bytes.now) (λ fault. bytes_at self.now slot ≡ Err fault) }
+        ensures take { MatchResult result (λ bytes. bytes_at self.now slot ≡ Ok bytes.now)
+            (λ fault. bytes_at self.now slot ≡ Err fault) }
     {
         let part = held_at(&self.parts, slot)?;
         Ok(bytes_of(self.blobs.as_slice(), &part))
@@ -110,7 +113,8 @@ impl Slots {
 
     /// Empties a slot. Takes no memory.
     pub fn clear(&mut self, slot: u32) -> Result<(), SlotFault>
-        ensures clear { MatchResult result (λ _. cleared self.old slot ≡ Ok self.new) (λ fault. (cleared self.old slot ≡ Err fault) × (self.new ≡ self.old)) }
+        ensures clear { MatchResult result (λ _. cleared self.old slot ≡ Ok self.new)
+            (λ fault. (cleared self.old slot ≡ Err fault) × (self.new ≡ self.old)) }
     {
         let _ = held_at(&self.parts, slot)?;
         self.parts[slot as usize - 1] = None;

@@ -12,8 +12,10 @@ use Rattle.hk_state.specs.Native.{payment_rows, drops_of}
 use Rattle.hk_state.specs.NativeLaws.{payable}
 
 -- what comes to an account fits, where all balances together are few enough
-pub receiver_fits : (m : Entries) (t : Transaction) (to : AccountId) (amount : Amount) (sender : Holding) (kept : ℕ) (receiver : Option Holding) →
-    holding_at m t.account ≡ Some sender → receiver ≡ holding_at m to → balances m ≤ 100000000000000000 → first_row (payment_rows t to amount sender kept receiver) ≡ None →
+pub receiver_fits : (m : Entries) (t : Transaction) (to : AccountId) (amount : Amount) (sender : Holding) (kept : ℕ)
+    (receiver : Option Holding) →
+    holding_at m t.account ≡ Some sender → receiver ≡ holding_at m to → balances m ≤ 100000000000000000 →
+    first_row (payment_rows t to amount sender kept receiver) ≡ None →
     MatchOption receiver (Unit {0}) (λ holding. holding.balance + drops_of amount < 2 ^ 64)
 receiver_fits m t to amount sender kept None at is sum none = tt
 receiver_fits m t to amount sender kept (Some receiver) at is sum none =

@@ -5,7 +5,8 @@ use Rattle.std.specs.declared.cmp.Ordering.TheVariants.{Less, Equal, Greater}
 use Rattle.std.specs.Ordering.{nat_cmp, is_eq, ordering_then}
 use Rattle.std.specs.Map.{lookup}
 use Rattle.std.specs.BTreeMap.{is_at}
-use Rattle.std.specs.FinMap.{get, insert, remove, from_entries, find, same_map, get-insert, get-remove, get-from_entries}
+use Rattle.std.specs.FinMap.{get, insert, remove, from_entries, find, same_map, get-insert, get-remove}
+use Rattle.std.specs.FinMap.{get-from_entries}
 use Rattle.std.specs.Cmp.{eq_by_cmp_equiv}
 use Rattle.std.proofs.lemmas.Map.Text.{is_eq-slice_cmp}
 use Rattle.std.proofs.lemmas.Bool.Decides.{nat_tests}
@@ -45,7 +46,8 @@ numbers_alike m n = grind (arith, nat_tests)
 
 pub alike : (a b : Key) → eq-value.it a b ≡ is_key a b
 alike (Account a) (Account b) = sym (is_eq-slice_cmp a.0 b.0)
-alike (Install a m) (Install b n) = sym (both (bytes_cmp a.0 b.0) (nat_cmp m n) ∙ (λ i. is_eq-slice_cmp a.0 b.0 i && numbers_alike m n i))
+alike (Install a m) (Install b n) =
+    sym (both (bytes_cmp a.0 b.0) (nat_cmp m n) ∙ (λ i. is_eq-slice_cmp a.0 b.0 i && numbers_alike m n i))
 alike (Definition a) (Definition b) = sym (is_eq-slice_cmp a.0 b.0)
 alike (State a m j) (State b n k) =
     sym (both (bytes_cmp a.0 b.0) (ordering_then (bytes_cmp m.0 n.0) (bytes_cmp j.0 k.0))

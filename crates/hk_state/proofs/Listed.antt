@@ -15,4 +15,8 @@ one_more (k ∷ keys) id = ap (cons_option (as_state_key k)) (one_more keys id)
 -- an account is no State key
 pub account_noted : (keys : List Key) (id : AccountId) → state_keys (note (key.Account id) keys) ≡ state_keys keys
 account_noted keys id =
-    elim (list_any (is_key (key.Account id)) keys) as (λ b. state_keys (cond b keys (keys ++ key.Account id ∷ [])) ≡ state_keys keys) [ true ↦ refl | false ↦ one_more keys id ]
+    elim (list_any (is_key (key.Account id)) keys)
+    as (λ b. state_keys (cond b keys (keys ++ key.Account id ∷ [])) ≡ state_keys keys) [
+      | true ↦ refl
+      | false ↦ one_more keys id
+    ]

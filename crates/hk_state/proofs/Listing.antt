@@ -1,5 +1,7 @@
 -- The list of written keys, as writes come and move.
-use Rattle.std.proofs.Common.{◌≡◌, ◌∙◌, ℕ, suc, zero, ◌+◌, ◌<◌, ◌≤◌, sym, ap, subst, refl, arith, List, [], ◌∷◌, ◌++◌, length, drop, insert, remove, slice_get, Bool, true, false, cond, ◌||◌, Some, None, MatchOption, if◌then◌else◌, append_assoc}
+use Rattle.std.proofs.Common.{◌≡◌, ◌∙◌, ℕ, suc, zero, ◌+◌, ◌<◌, ◌≤◌, sym, ap, subst, refl, arith, List, [], ◌∷◌, ◌++◌}
+use Rattle.std.proofs.Common.{length, drop, insert, remove, slice_get, Bool, true, false, cond, ◌||◌, Some, None}
+use Rattle.std.proofs.Common.{MatchOption, if◌then◌else◌, append_assoc}
 use Rattle.std.specs.List.{list_any, AllByRecursion, IsDistinct}
 use Rattle.std.specs.Option.{option_map, option_map_or}
 use Rattle.std.specs.FinMap.{find}
@@ -23,10 +25,20 @@ module _ {X : Type 0} where
 
   pub split : (xs : List X) (at : ℕ) (x : X) → slice_get xs at ≡ Some x → Split xs at x
   split [] at x h = cc
-  split (y ∷ ys) zero x h = record { before = []; after = ys; whole = (let same : y ≡ x = cc in ap (λ z. z ∷ ys) same); long = refl }
+  split (y ∷ ys) zero x h = record {
+    before = [];
+    after = ys;
+    whole = (let same : y ≡ x = cc in ap (λ z. z ∷ ys) same);
+    long = refl;
+  }
   split (y ∷ ys) (suc at) x h =
       let rest = split ys at x h in
-      record { before = y ∷ rest.before; after = rest.after; whole = ap (λ zs. y ∷ zs) rest.whole; long = ap suc rest.long }
+      record {
+        before = y ∷ rest.before;
+        after = rest.after;
+        whole = ap (λ zs. y ∷ zs) rest.whole;
+        long = ap suc rest.long;
+      }
 
   -- without the item between
   removed : (before : List X) (x : X) (after : List X) →
@@ -52,7 +64,8 @@ module _ {X : Type 0} where
   pub moved_last : (before : List X) (x : X) (after : List X) (to : ℕ) → to ≡ length before + length after →
       move_index (before ++ x ∷ after) (length before) to ≡ (before ++ after) ++ x ∷ []
   moved_last before x after to h =
-      ap (λ o. option_map_or (λ y. insert (remove (before ++ x ∷ after) (length before)) to y) o (before ++ x ∷ after)) (got before x after)
+      ap (λ o. option_map_or (λ y. insert (remove (before ++ x ∷ after) (length before)) to y) o (before ++ x ∷ after))
+      (got before x after)
       ∙ ap (λ xs. insert xs to x) (removed before x after)
       ∙ inserted_last (before ++ after) x to (h ∙ sym (joined before after))
 
@@ -90,8 +103,10 @@ pub listed_at : (key k : Key) (ks : List Key) (n at : ℕ) → slice_get ks at �
     list_any (is_key key) (drop n ks) ≡ true
 listed_at key k [] n at h is le = cc
 listed_at key k (x ∷ xs) zero zero h is le =
-    let same : x ≡ k = cc in ap (λ y. is_key key y || list_any (is_key key) xs) same ∙ ap (λ b. b || list_any (is_key key) xs) is
-listed_at key k (x ∷ xs) zero (suc at) h is le = or_true (is_key key x) (list_any (is_key key) xs) (listed_at key k xs zero at h is (omega arith))
+    let same : x ≡ k = cc in
+    ap (λ y. is_key key y || list_any (is_key key) xs) same ∙ ap (λ b. b || list_any (is_key key) xs) is
+listed_at key k (x ∷ xs) zero (suc at) h is le =
+    or_true (is_key key x) (list_any (is_key key) xs) (listed_at key k xs zero at h is (omega arith))
   where
     or_true : (a b : Bool) → b ≡ true → (a || b) ≡ true
     or_true true b e = refl
@@ -115,7 +130,8 @@ module _ (test : Key → Key → Bool) (agrees : (a b : Key) → test a b ≡ is
   apart : (ks : List Key) (k : Key) → IsDistinct test (ks ++ k ∷ []) → list_any (is_key k) ks ≡ false
   apart [] k h = refl
   apart (x ∷ xs) k h =
-      let first : is_key k x ≡ false = flipped k x ∙ sym (agrees x k) ∙ last_of x k xs (IsDistinct-head test x (xs ++ k ∷ []) h) in
+      let first : is_key k x ≡ false =
+      flipped k x ∙ sym (agrees x k) ∙ last_of x k xs (IsDistinct-head test x (xs ++ k ∷ []) h) in
       ap (λ b. b || list_any (is_key k) xs) first ∙ apart xs k (IsDistinct-tail test x (xs ++ k ∷ []) h)
 
   -- distinct keys of which the last is listed now
@@ -135,25 +151,32 @@ module _ (test : Key → Key → Bool) (agrees : (a b : Key) → test a b ≡ is
       let before = keys_of s.before in
       let after = keys_of s.after in
       let whole : keys_of es ≡ before ++ k ∷ after = ap keys_of s.whole ∙ keys_joined s.before ((k, x) ∷ s.after) in
-      let size : length es ≡ length s.before + suc (length s.after) = ap length s.whole ∙ joined s.before ((k, x) ∷ s.after) in
+      let size : length es ≡ length s.before + suc (length s.after) =
+      ap length s.whole ∙ joined s.before ((k, x) ∷ s.after) in
       let place = s.long in
       let many = keys_many s.before in
       let rest = keys_many s.after in
       let moved : keys_of (move_index es at to) ≡ (before ++ after) ++ k ∷ [] =
-      ap keys_of ((λ i. move_index (s.whole i) (sym s.long i) to) ∙ moved_last s.before (k, x) s.after to (omega (arith, last, size)))
+      ap keys_of
+      ((λ i. move_index (s.whole i) (sym s.long i) to)
+      ∙ moved_last s.before (k, x) s.after to (omega (arith, last, size)))
       ∙ keys_joined (s.before ++ s.after) ((k, x) ∷ []) ∙ ap (λ ks. ks ++ k ∷ []) (keys_joined s.before s.after) in
       let sum = joined before after in
       ap (drop n) moved
-      ∙ noted_last (before ++ after) k n (omega (arith, size, sum, within, many, rest)) (subst (IsDistinct test) moved distinct)
+      ∙ noted_last (before ++ after) k n (omega (arith, size, sum, within, many, rest))
+      (subst (IsDistinct test) moved distinct)
       ∙ (λ i. note (sym (exact key k is) i) (drop n (before ++ after)))
-      ∙ ap (note key) (sym (ap (λ i. drop i (keys_of es)) (let more : n + 1 ≡ suc n = omega arith in more) ∙ ap (drop (suc n)) whole ∙ behind before k after n (omega (arith, place, le, many))))
+      ∙ ap (note key) (sym (ap (λ i. drop i (keys_of es)) (let more : n + 1 ≡ suc n = omega arith in more)
+      ∙ ap (drop (suc n)) whole
+      ∙ behind before k after n (omega (arith, place, le, many))))
 
   -- a key that an index map finds is the one that is asked for
   pub found_key : {X : Type 0} (key k : Key) (es : List (Key × X)) → lookup_key (test key) es ≡ Some k →
       is_key key k ≡ true
   found_key key k [] h = cc
   found_key key k (e ∷ es) h =
-      elim (test key e.0) as (λ b. test key e.0 ≡ b → cond b (Some e.0) (lookup_key (test key) es) ≡ Some k → is_key key k ≡ true) [
+      elim (test key e.0)
+      as (λ b. test key e.0 ≡ b → cond b (Some e.0) (lookup_key (test key) es) ≡ Some k → is_key key k ≡ true) [
         | true ↦ λ is here. let same : e.0 ≡ k = cc in ap (is_key key) (sym same) ∙ sym (agrees key e.0) ∙ is
         | false ↦ λ is later. found_key key k es later
       ] refl h
@@ -163,7 +186,9 @@ module _ (test : Key → Key → Bool) (agrees : (a b : Key) → test a b ≡ is
       insert_entry test es k x ≡ es ++ (k, x) ∷ []
   inserted_new [] k x h = refl
   inserted_new (e ∷ es) k x h =
-      elim (test k e.0) as (λ b. cond b (Some e.1) (lookup (test k) es) ≡ None → (if b then (e.0, x) ∷ es else e ∷ insert_entry test es k x) ≡ e ∷ (es ++ (k, x) ∷ [])) [
+      elim (test k e.0) as (λ b.
+      cond b (Some e.1) (lookup (test k) es) ≡ None →
+      (if b then (e.0, x) ∷ es else e ∷ insert_entry test es k x) ≡ e ∷ (es ++ (k, x) ∷ [])) [
         | true ↦ λ bad. cc
         | false ↦ λ none. ap (λ fs. e ∷ fs) (inserted_new es k x none)
       ] h
@@ -172,7 +197,9 @@ module _ (test : Key → Key → Bool) (agrees : (a b : Key) → test a b ≡ is
       keys_of (insert_entry test es k x) ≡ keys_of es
   inserted_known [] k x old h = cc
   inserted_known (e ∷ es) k x old h =
-      elim (test k e.0) as (λ b. cond b (Some e.1) (lookup (test k) es) ≡ Some old → keys_of (if b then (e.0, x) ∷ es else e ∷ insert_entry test es k x) ≡ e.0 ∷ keys_of es) [
+      elim (test k e.0) as (λ b.
+      cond b (Some e.1) (lookup (test k) es) ≡ Some old →
+      keys_of (if b then (e.0, x) ∷ es else e ∷ insert_entry test es k x) ≡ e.0 ∷ keys_of es) [
         | true ↦ λ is. refl
         | false ↦ λ later. ap (λ ks. e.0 ∷ ks) (inserted_known es k x old later)
       ] h
@@ -182,9 +209,12 @@ module _ (test : Key → Key → Bool) (agrees : (a b : Key) → test a b ≡ is
       list_any (is_key k) (keys_of es) ≡ false
   none_listed [] k h = refl
   none_listed (e ∷ es) k h =
-      elim (test k e.0) as (λ b. test k e.0 ≡ b → cond b (Some e.1) (lookup (test k) es) ≡ None → (is_key k e.0 || list_any (is_key k) (keys_of es)) ≡ false) [
+      elim (test k e.0) as (λ b.
+      test k e.0 ≡ b → cond b (Some e.1) (lookup (test k) es) ≡ None →
+      (is_key k e.0 || list_any (is_key k) (keys_of es)) ≡ false) [
         | true ↦ λ is bad. cc
-        | false ↦ λ is none. ap (λ b. b || list_any (is_key k) (keys_of es)) (sym (agrees k e.0) ∙ is) ∙ none_listed es k none
+        | false ↦
+            λ is none. ap (λ b. b || list_any (is_key k) (keys_of es)) (sym (agrees k e.0) ∙ is) ∙ none_listed es k none
       ] refl h
 
   pub unlisted : {X : Type 0} (es fs : List (Key × X)) (k : Key) (n : ℕ) →
@@ -195,14 +225,21 @@ module _ (test : Key → Key → Bool) (agrees : (a b : Key) → test a b ≡ is
   -- where a write goes, once an older one to its key was moved behind the others
   pub noted : {X : Type 0} (es fs gs : List (Key × X)) (k : Key) (x : X) (from now : ℕ) →
       ((q : Key) → lookup (test q) fs ≡ lookup (test q) es) →
-      MatchOption (lookup (test k) es) ((now ≡ from) × (fs ≡ es)) (λ _. drop now (keys_of fs) ≡ note k (drop from (keys_of es))) →
-      gs ≡ insert_entry test fs k x → now ≤ length fs → IsDistinct test (keys_of gs) → drop now (keys_of gs) ≡ note k (drop from (keys_of es))
+      MatchOption (lookup (test k) es) ((now ≡ from) × (fs ≡ es))
+      (λ _. drop now (keys_of fs) ≡ note k (drop from (keys_of es))) →
+      gs ≡ insert_entry test fs k x → now ≤ length fs → IsDistinct test (keys_of gs) →
+      drop now (keys_of gs) ≡ note k (drop from (keys_of es))
   noted es fs gs k x from now same listed done within distinct =
-      elim (lookup (test k) es) as (λ found. lookup (test k) es ≡ found → MatchOption found ((now ≡ from) × (fs ≡ es)) (λ _. drop now (keys_of fs) ≡ note k (drop from (keys_of es))) → drop now (keys_of gs) ≡ note k (drop from (keys_of es))) [
+      elim (lookup (test k) es) as (λ found.
+      lookup (test k) es ≡ found →
+      MatchOption found ((now ≡ from) × (fs ≡ es)) (λ _. drop now (keys_of fs) ≡ note k (drop from (keys_of es))) →
+      drop now (keys_of gs) ≡ note k (drop from (keys_of es))) [
         | None ↦ λ none is.
-            let new : keys_of gs ≡ keys_of fs ++ k ∷ [] = ap keys_of (done ∙ inserted_new fs k x (same k ∙ none)) ∙ keys_joined fs ((k, x) ∷ []) in
+            let new : keys_of gs ≡ keys_of fs ++ k ∷ [] =
+            ap keys_of (done ∙ inserted_new fs k x (same k ∙ none)) ∙ keys_joined fs ((k, x) ∷ []) in
             let many = keys_many fs in
-            ap (drop now) new ∙ noted_last (keys_of fs) k now (omega (arith, within, many)) (subst (IsDistinct test) new distinct)
+            ap (drop now) new
+            ∙ noted_last (keys_of fs) k now (omega (arith, within, many)) (subst (IsDistinct test) new distinct)
             ∙ (λ i. note k (drop (is.0 i) (keys_of (is.1 i))))
         | Some old ↦ λ some is. ap (drop now) (ap keys_of done ∙ inserted_known fs k x old (same k ∙ some)) ∙ is
       ] refl listed
@@ -230,7 +267,9 @@ module _ (test : Key → Key → Bool) (agrees : (a b : Key) → test a b ≡ is
       IsDistinct test (keys_of (done ++ (k, x) ∷ more)) → find key_cmp k (done ++ (k, x) ∷ more) ≡ Some x
   found_in [] more k x h = ap (λ b. cond b (Some x) (find key_cmp k more)) (itself k)
   found_in (e ∷ es) more k x h =
-      let apart = first_of e.0 k (keys_of es) (keys_of more) (subst (AllByRecursion (λ y. test e.0 y ≡ false)) (keys_joined es ((k, x) ∷ more)) (IsDistinct-head test e.0 (keys_of (es ++ (k, x) ∷ more)) h)) in
+      let apart =
+      first_of e.0 k (keys_of es) (keys_of more) (subst (AllByRecursion (λ y. test e.0 y ≡ false))
+      (keys_joined es ((k, x) ∷ more)) (IsDistinct-head test e.0 (keys_of (es ++ (k, x) ∷ more)) h)) in
       ap (λ b. cond b (Some e.1) (find key_cmp k (es ++ (k, x) ∷ more))) (flipped k e.0 ∙ sym (agrees e.0 k) ∙ apart)
       ∙ found_in es more k x (IsDistinct-tail test e.0 (keys_of (es ++ (k, x) ∷ more)) h)
 
@@ -244,18 +283,22 @@ module _ (test : Key → Key → Bool) (agrees : (a b : Key) → test a b ≡ is
   dropped_get : (ks : List Key) (n at : ℕ) → slice_get (drop n ks) at ≡ slice_get ks (n + at)
   dropped_get ks zero at = ap (slice_get ks) (let same : at ≡ 0 + at = omega arith in same)
   dropped_get [] (suc n) at = refl
-  dropped_get (k ∷ ks) (suc n) at = dropped_get ks n at ∙ ap (slice_get (k ∷ ks)) (let same : suc (n + at) ≡ suc n + at = omega arith in same)
+  dropped_get (k ∷ ks) (suc n) at =
+      dropped_get ks n at ∙ ap (slice_get (k ∷ ks)) (let same : suc (n + at) ≡ suc n + at = omega arith in same)
 
   -- the key at a place of the list
   pub at_place : {X : Type 0} (es : List (Key × X)) (n at : ℕ) (k : Key) (x : X) →
       Some (pair k x) ≡ slice_get es (n + at) → slice_get (drop n (keys_of es)) at ≡ Some k
-  at_place es n at k x is = dropped_get (keys_of es) n at ∙ slice_get-map (λ e. e.0) es (n + at) ∙ ap (option_map (λ e. e.0)) (sym is)
+  at_place es n at k x is =
+      dropped_get (keys_of es) n at ∙ slice_get-map (λ e. e.0) es (n + at) ∙ ap (option_map (λ e. e.0)) (sym is)
 
   none_in_front : {X : Type 0} (done more : List (Key × X)) (k : Key) (x : X) →
       IsDistinct test (keys_of (done ++ (k, x) ∷ more)) → lookup (test k) done ≡ None
   none_in_front [] more k x h = refl
   none_in_front (e ∷ es) more k x h =
-      let apart = first_of e.0 k (keys_of es) (keys_of more) (subst (AllByRecursion (λ y. test e.0 y ≡ false)) (keys_joined es ((k, x) ∷ more)) (IsDistinct-head test e.0 (keys_of (es ++ (k, x) ∷ more)) h)) in
+      let apart =
+      first_of e.0 k (keys_of es) (keys_of more) (subst (AllByRecursion (λ y. test e.0 y ≡ false))
+      (keys_joined es ((k, x) ∷ more)) (IsDistinct-head test e.0 (keys_of (es ++ (k, x) ∷ more)) h)) in
       ap (λ b. cond b (Some e.1) (lookup (test k) es)) (agrees k e.0 ∙ flipped k e.0 ∙ sym (agrees e.0 k) ∙ apart)
       ∙ none_in_front es more k x (IsDistinct-tail test e.0 (keys_of (es ++ (k, x) ∷ more)) h)
 

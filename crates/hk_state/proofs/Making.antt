@@ -1,11 +1,13 @@
 -- All writes are made, or none.
-use Rattle.std.proofs.Common.{◌≡◌, ◌∙◌, sym, ap, subst, refl, List, [], ◌∷◌, ◌++◌, Bool, true, false, cond, ◌||◌, Option, Some, None, IsSome, is_some, MatchOption}
+use Rattle.std.proofs.Common.{◌≡◌, ◌∙◌, sym, ap, subst, refl, List, [], ◌∷◌, ◌++◌, Bool, true, false, cond, ◌||◌}
+use Rattle.std.proofs.Common.{Option, Some, None, IsSome, is_some, MatchOption}
 use Rattle.std.proofs.lemmas.Bool.{or_from as neither_of}
 use Rattle.std.proofs.lemmas.Bool.{or_parts as neither}
 use Rattle.std.proofs.lemmas.Bool.{or_right as last_way}
 use Rattle.std.proofs.lemmas.Bool.{or_left as either_way}
 use Rattle.std.specs.List.{list_any}
-use Rattle.std.specs.FinMap.{get, remove, find, from_entries, entries, get-remove, get-entries, get-from_entries, same_map}
+use Rattle.std.specs.FinMap.{get, remove, find, from_entries, entries, get-remove, get-entries, get-from_entries}
+use Rattle.std.specs.FinMap.{same_map}
 use Rattle.hk_state.specs.declared.key.Key.{Key}
 use Rattle.hk_state.specs.declared.entry.Entry.{Entry}
 use Rattle.hk_state.specs.Keys.{key_cmp, is_key, keys_total, exact_keys, itself, exact}
@@ -19,7 +21,8 @@ any_last q k [] = or_none (is_key q k)
     or_none : (b : Bool) → (b || false) ≡ b
     or_none true = refl
     or_none false = refl
-any_last q k (x ∷ xs) = ap (λ b. is_key q x || b) (any_last q k xs) ∙ regroup (is_key q x) (list_any (is_key q) xs) (is_key q k)
+any_last q k (x ∷ xs) =
+    ap (λ b. is_key q x || b) (any_last q k xs) ∙ regroup (is_key q x) (list_any (is_key q) xs) (is_key q k)
   where
     regroup : (a b c : Bool) → (a || (b || c)) ≡ ((a || b) || c)
     regroup true b c = refl
@@ -59,12 +62,17 @@ adds_more base m n puts ks k put absent others adds =
 pub adds_less : (base m : Entries) (puts : Key → Bool) (ks : List Key) (k : Key) → Adds base puts m (ks ++ k ∷ []) →
     Adds base puts (remove m k) ks
 adds_less base m puts ks k adds =
-    let more = λ (q : Key) (h : list_any (is_key q) ks ≡ true). any_last q k ks ∙ either_way (list_any (is_key q) ks) (is_key q k) h in
+    let more =
+    λ (q : Key) (h : list_any (is_key q) ks ≡ true).
+    any_last q k ks ∙ either_way (list_any (is_key q) ks) (is_key q k) h in
     record {
-      kept = λ q h. get-remove keys_total m k q ∙ elim (is_key q k) as (λ b. is_key q k ≡ b → cond b None (get m q) ≡ get base q) [
-        | true ↦ λ is. sym (adds.fresh q (any_last q k ks ∙ last_way (list_any (is_key q) ks) (is_key q k) is))
-        | false ↦ λ is. adds.kept q (any_last q k ks ∙ neither_of (list_any (is_key q) ks) (is_key q k) h is)
-      ] refl;
+      kept =
+          λ q h.
+          get-remove keys_total m k q
+          ∙ elim (is_key q k) as (λ b. is_key q k ≡ b → cond b None (get m q) ≡ get base q) [
+            | true ↦ λ is. sym (adds.fresh q (any_last q k ks ∙ last_way (list_any (is_key q) ks) (is_key q k) is))
+            | false ↦ λ is. adds.kept q (any_last q k ks ∙ neither_of (list_any (is_key q) ks) (is_key q k) h is)
+          ] refl;
       fresh = λ q h. adds.fresh q (more q h);
       among = λ q h. adds.among q (more q h);
     }
@@ -83,7 +91,9 @@ pub readied : (base m : Entries) (added : List Key) (ws : List (Key × Option En
     with_all m ws ≡ with_all base ws
 readied base m added ws adds = same_map keys_total exact_keys _ _ (λ q.
     get-with_all m ws q
-    ∙ elim (list_any (is_key q) added) as (λ b. list_any (is_key q) added ≡ b → change_or (find key_cmp q ws) (get m q) ≡ change_or (find key_cmp q ws) (get base q)) [
+    ∙ elim (list_any (is_key q) added) as (λ b.
+    list_any (is_key q) added ≡ b →
+    change_or (find key_cmp q ws) (get m q) ≡ change_or (find key_cmp q ws) (get base q)) [
       | true ↦ λ is. both_entries (find key_cmp q ws) (get m q) (get base q) (adds.among q is)
       | false ↦ λ none. ap (change_or (find key_cmp q ws)) (adds.kept q none)
     ] refl
@@ -101,7 +111,9 @@ none_found q (w ∷ ws) h =
     ap (λ b. is_entry (cond b (Some w.1) (find key_cmp q ws))) none.0 ∙ none_found q ws none.1
 
 pub all_left : (m : Entries) (ws rest : List (Key × Option Entry)) → rest ≡ ws → IsReadyBut m ws rest
-all_left m ws rest same = record { given = λ q put none. let fails = none_found q ws (ap (list_any (λ w. is_key q w.0)) (sym same) ∙ none) in cc }
+all_left m ws rest same = record {
+  given = λ q put none. let fails = none_found q ws (ap (list_any (λ w. is_key q w.0)) (sym same) ∙ none) in cc;
+}
 
 pub none_left : (m : Entries) (ws rest : List (Key × Option Entry)) → rest ≡ [] → IsReadyBut m ws rest → IsReady m ws
 none_left m ws rest none ready q put = ready.given q put (ap (list_any (λ w. is_key q w.0)) none)
@@ -112,8 +124,15 @@ pub one_readied : (m n : Entries) (ws rest more : List (Key × Option Entry)) (k
 one_readied m n ws rest more k c left there stays ready = record {
   given = λ q put none.
       elim (is_key q k) as (λ b. is_key q k ≡ b → IsSome (get n q)) [
-        | true ↦ λ is. let same = exact q k is in subst (λ p. IsSome (get n p)) (sym same) (there (ap (is_put ws) (sym same) ∙ put))
-        | false ↦ λ fails. stays q (ready.given q put (ap (list_any (λ w. is_key q w.0)) left ∙ neither_of (is_key q k) (list_any (λ w. is_key q w.0) more) fails none))
+        | true ↦
+            λ is.
+            let same = exact q k is in
+            subst (λ p. IsSome (get n p)) (sym same) (there (ap (is_put ws) (sym same) ∙ put))
+        | false ↦
+            λ fails.
+            stays q (ready.given q put
+            (ap (list_any (λ w. is_key q w.0)) left
+            ∙ neither_of (is_key q k) (list_any (λ w. is_key q w.0) more) fails none))
       ] refl;
 }
 
@@ -127,7 +146,9 @@ found_first : (q : Key) (ws : List (Key × Option Entry)) (w : Key × Option Ent
     is_put (ws ++ w ∷ []) q ≡ true
 found_first q [] w h = cc
 found_first q (v ∷ ws) w h =
-    elim (is_key q v.0) as (λ b. is_entry (cond b (Some v.1) (find key_cmp q ws)) ≡ true → is_entry (cond b (Some v.1) (find key_cmp q (ws ++ w ∷ []))) ≡ true) [
+    elim (is_key q v.0) as (λ b.
+    is_entry (cond b (Some v.1) (find key_cmp q ws)) ≡ true →
+    is_entry (cond b (Some v.1) (find key_cmp q (ws ++ w ∷ []))) ≡ true) [
       | true ↦ λ is. is
       | false ↦ λ later. found_first q ws w later
     ] h
@@ -136,7 +157,9 @@ found_last : (k : Key) (ws : List (Key × Option Entry)) (e : Entry) → find ke
     is_put (ws ++ (k, Some e) ∷ []) k ≡ true
 found_last k [] e h = ap (λ b. is_entry (cond b (Some (Some e)) None)) (itself k)
 found_last k (v ∷ ws) e h =
-    elim (is_key k v.0) as (λ b. cond b (Some v.1) (find key_cmp k ws) ≡ None → is_entry (cond b (Some v.1) (find key_cmp k (ws ++ (k, Some e) ∷ []))) ≡ true) [
+    elim (is_key k v.0) as (λ b.
+    cond b (Some v.1) (find key_cmp k ws) ≡ None →
+    is_entry (cond b (Some v.1) (find key_cmp k (ws ++ (k, Some e) ∷ []))) ≡ true) [
       | true ↦ λ bad. cc
       | false ↦ λ none. found_last k ws e none
     ] h
@@ -161,14 +184,16 @@ ready_rest m n ws all k c whole none made ready q put =
 
 pub one_made : (m n : Entries) (ws all : List (Key × Option Entry)) (k : Key) (c : Option Entry) →
     all ≡ ws ++ (k, c) ∷ [] → n ≡ write m k c → with_all n ws ≡ with_all m all
-one_made m n ws all k c whole made = ap (λ p. with_all p ws) made ∙ sym (all_last m ws (k, c)) ∙ ap (with_all m) (sym whole)
+one_made m n ws all k c whole made =
+    ap (λ p. with_all p ws) made ∙ sym (all_last m ws (k, c)) ∙ ap (with_all m) (sym whole)
 
 -- a list of writes and the map that it makes
 pub as_writes : (m : Entries) (ws : List (Key × Option Entry)) (listed : List Key) →
     with_all m ws ≡ with_writes m (record { changes = from_entries ws; listed = listed })
 as_writes m ws listed = same_map keys_total exact_keys _ _ (λ q.
     get-with_all m ws q
-    ∙ ap (λ found. change_or found (get m q)) (sym (get-from_entries keys_total ws q) ∙ get-entries (from_entries {R = key_cmp} ws) q)
+    ∙ ap (λ found. change_or found (get m q))
+    (sym (get-from_entries keys_total ws q) ∙ get-entries (from_entries {R = key_cmp} ws) q)
     ∙ sym (get-with_all m (entries (from_entries {R = key_cmp} ws)) q))
 
 entry_of : (found : Option (Option Entry)) → is_entry found ≡ true → (e : Entry) × (found ≡ Some (Some e))
@@ -180,7 +205,12 @@ pub as_cause : (m : Entries) (ws : List (Key × Option Entry)) (listed : List Ke
     AddsKey m (record { changes = from_entries ws; listed = listed })
 as_cause m ws listed adds =
     let put = entry_of (find key_cmp adds.key ws) adds.put in
-    record { key = adds.key; entry = put.0; put = get-from_entries keys_total ws adds.key ∙ put.1; absent = adds.absent }
+    record {
+      key = adds.key;
+      entry = put.0;
+      put = get-from_entries keys_total ws adds.key ∙ put.1;
+      absent = adds.absent;
+    }
 
 -- a key that isn't there now was not there before
 pub absent_before : (base m : Entries) (puts : Key → Bool) (added : List Key) (k : Key) → Adds base puts m added →

@@ -24,8 +24,12 @@ module _ {X : Type 0} where
   all_below : (k : Key) (es : List (Key × X)) → AllByRecursion (λ y. cmp-value.it k y ≡ Less) (keys_of es) →
       T (below k es)
   all_below k [] h = tt
-  all_below k (e ∷ es) h = both (is_lt (key_cmp k e.0)) (below k es) (subst (λ order. T (is_lt order)) (sym h.0 ∙ derived k e.0) tt) (all_below k es h.1)
+  all_below k (e ∷ es) h =
+      both (is_lt (key_cmp k e.0)) (below k es) (subst (λ order. T (is_lt order)) (sym h.0 ∙ derived k e.0) tt)
+      (all_below k es h.1)
 
   pub in_order : (es : List (Key × X)) → IsStrictlySortedBy cmp-value.it (keys_of es) → T (is_sorted key_cmp es)
   in_order [] h = tt
-  in_order (e ∷ es) h = both (below e.0 es) (is_sorted key_cmp es) (all_below e.0 es (sorted_head cmp-value.it e.0 (keys_of es) h)) (in_order es (sorted_tail cmp-value.it e.0 (keys_of es) h))
+  in_order (e ∷ es) h =
+      both (below e.0 es) (is_sorted key_cmp es) (all_below e.0 es (sorted_head cmp-value.it e.0 (keys_of es) h))
+      (in_order es (sorted_tail cmp-value.it e.0 (keys_of es) h))

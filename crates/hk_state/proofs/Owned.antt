@@ -1,5 +1,6 @@
 -- The units of what an account owns, by a walk over its entries.
-use Rattle.std.proofs.Common.{◌≡◌, ◌∙◌, ℕ, ◌+◌, sym, ap, refl, arith, Bool, true, false, ◌&&◌, ◌||◌, if◌then◌else◌, List, [], ◌∷◌}
+use Rattle.std.proofs.Common.{◌≡◌, ◌∙◌, ℕ, ◌+◌, sym, ap, refl, arith, Bool, true, false, ◌&&◌, ◌||◌, if◌then◌else◌}
+use Rattle.std.proofs.Common.{List, [], ◌∷◌}
 use Rattle.std.specs.declared.cmp.Ordering.{Ordering}
 use Rattle.std.specs.declared.cmp.Ordering.TheVariants.{Less, Equal, Greater}
 use Rattle.std.specs.Ordering.{nat_cmp, is_le, is_eq, ordering_reverse, ordering_then}
@@ -42,7 +43,8 @@ none_of a d b x y not le lt =
     elim (bytes_eq a b) as (λ c. bytes_eq a b ≡ c → c ≡ false) [
       | true ↦ λ same.
           let tie = order_at (bytes_cmp a b) (is_eq-slice_cmp a b ∙ same) in
-          let turned : bytes_cmp d b ≡ ordering_reverse (bytes_cmp a d) = turned_bytes d b ∙ ap ordering_reverse (sym (keys_total.congr (Other a) (Other b) (Other d) tie)) in
+          let turned : bytes_cmp d b ≡ ordering_reverse (bytes_cmp a d) =
+          turned_bytes d b ∙ ap ordering_reverse (sym (keys_total.congr (Other a) (Other b) (Other d) tie)) in
           absurd (past (bytes_cmp a d) (bytes_cmp d b) x y turned (is_eq-slice_cmp a d ∙ not) le lt)
       | false ↦ λ differ. refl
     ] refl
@@ -50,7 +52,8 @@ none_of a d b x y not le lt =
 beside_later : (start k q : Key) → is_from start k ≡ true → are_beside start k ≡ false → key_cmp k q ≡ Less →
     are_beside start q ≡ false
 beside_later (Install a m) (Account d) (Install b n) le not lt = cc
-beside_later (Install a m) (Install d j) (Install b n) le not lt = none_of a.0 d.0 b.0 (nat_cmp m j) (nat_cmp j n) not le lt
+beside_later (Install a m) (Install d j) (Install b n) le not lt =
+    none_of a.0 d.0 b.0 (nat_cmp m j) (nat_cmp j n) not le lt
 beside_later (Install a m) (Definition h) (Install b n) le not lt = cc
 beside_later (Install a m) (State d p r) (Install b n) le not lt = cc
 beside_later (Install a m) (Emitted i) (Install b n) le not lt = cc
@@ -59,7 +62,8 @@ beside_later (State a i j) (Account d) (State b s t) le not lt = cc
 beside_later (State a i j) (Install d n) (State b s t) le not lt = cc
 beside_later (State a i j) (Definition h) (State b s t) le not lt = cc
 beside_later (State a i j) (State d p r) (State b s t) le not lt =
-    none_of a.0 d.0 b.0 (ordering_then (bytes_cmp i.0 p.0) (bytes_cmp j.0 r.0)) (ordering_then (bytes_cmp p.0 s.0) (bytes_cmp r.0 t.0)) not le lt
+    none_of a.0 d.0 b.0 (ordering_then (bytes_cmp i.0 p.0) (bytes_cmp j.0 r.0))
+    (ordering_then (bytes_cmp p.0 s.0) (bytes_cmp r.0 t.0)) not le lt
 beside_later (State a i j) (Emitted n) (State b s t) le not lt = cc
 beside_later (State a i j) (Other bytes) (State b s t) le not lt = cc
 beside_later start k q le not lt = refl
@@ -74,7 +78,9 @@ but_last false b h is = cc
 
 pub together : (start k q : Key) → is_from start k ≡ true → is_own start k ≡ false → key_cmp k q ≡ Less →
     is_own start q ≡ false
-together start k q le not lt = and_last (is_from start q) (are_beside start q) (beside_later start k q le (but_last (is_from start k) (are_beside start k) not le) lt)
+together start k q le not lt =
+    and_last (is_from start q) (are_beside start q)
+    (beside_later start k q le (but_last (is_from start k) (are_beside start k) not le) lt)
 
 abbrev pub entry_units : Key → Entry → ℕ
 entry_units k e = units_in e
@@ -84,7 +90,9 @@ by_entries : (start : Key) (es : List (Key × Entry)) →
 by_entries start [] = refl
 by_entries start (e ∷ es) =
     let rest = by_entries start es in
-    elim (is_own start e.0) as (λ b. (if b then units_in e.1 else 0) + total (own_units start) es ≡ total entry_units (if b then e ∷ passing (is_own start) es else passing (is_own start) es)) [
+    elim (is_own start e.0) as (λ b.
+    (if b then units_in e.1 else 0) + total (own_units start) es
+    ≡ total entry_units (if b then e ∷ passing (is_own start) es else passing (is_own start) es)) [
       | true ↦ omega (arith, rest)
       | false ↦ omega (arith, rest)
     ]
@@ -120,14 +128,17 @@ by_own : (own : Key → Bool) (p : Entry → Bool) (es : List (Key × Entry)) �
     list_any (λ e. own e.0 && p e.1) es ≡ list_any (λ e. p e.1) (passing own es)
 by_own own p [] = refl
 by_own own p (e ∷ es) =
-    elim (own e.0) as (λ b. ((b && p e.1) || list_any (λ x. own x.0 && p x.1) es) ≡ list_any (λ x. p x.1) (if b then e ∷ passing own es else passing own es)) [
+    elim (own e.0) as (λ b.
+    ((b && p e.1) || list_any (λ x. own x.0 && p x.1) es)
+    ≡ list_any (λ x. p x.1) (if b then e ∷ passing own es else passing own es)) [
       | true ↦ ap (λ b. p e.1 || b) (by_own own p es)
       | false ↦ by_own own p es
     ]
 
 -- a test of some entry beside a first key, by a walk from it
 pub some_own : (m : Entries) (start : Key) (p : Entry → Bool) →
-    list_any (λ e. p e.1) (run (is_own start) (passing (is_from start) (entries m))) ≡ list_any (λ e. is_own start e.0 && p e.1) (entries m)
+    list_any (λ e. p e.1) (run (is_own start) (passing (is_from start) (entries m)))
+    ≡ list_any (λ e. is_own start e.0 && p e.1) (entries m)
 some_own m start p =
     ap (list_any (λ e. p e.1)) (sym (own_in (is_own start) (is_from start) (inside start) (together start) m))
     ∙ sym (by_own (is_own start) p (entries m))

@@ -24,12 +24,14 @@ is_none None h = refl
 is_none (Some x) h = cc
 
 -- a put at a new key, whether it is refused or not
-module _ {X E : Type 0} (r : Result X E) (m n : Entries) (key : Key) (e : Entry) (ok : OnOk r (n ≡ insert m key e)) (err : OnErr r (n ≡ m)) where
+module _ {X E : Type 0} (r : Result X E) (m n : Entries) (key : Key) (e : Entry) (ok : OnOk r (n ≡ insert m key e))
+    (err : OnErr r (n ≡ m)) where
   pub others : (q : Key) → is_key q key ≡ false → get n q ≡ get m q
   others q apart = by r ok err
     where
       by : (answer : Result X E) → OnOk answer (n ≡ insert m key e) → OnErr answer (n ≡ m) → get n q ≡ get m q
-      by (Ok x) done none = ap (λ p. get p q) done ∙ get-insert keys_total m key e q ∙ ap (λ b. cond b (Some e) (get m q)) apart
+      by (Ok x) done none =
+          ap (λ p. get p q) done ∙ get-insert keys_total m key e q ∙ ap (λ b. cond b (Some e) (get m q)) apart
       by (Err x) done none = ap (λ p. get p q) none
 
   pub stays : get m key ≡ None → (q : Key) → IsSome (get m q) → IsSome (get n q)
@@ -40,7 +42,10 @@ module _ {X E : Type 0} (r : Result X E) (m n : Entries) (key : Key) (e : Entry)
       ] refl
 
 pub put_there : (m n : Entries) (key : Key) (e : Entry) → n ≡ insert m key e → IsSome (get n key)
-put_there m n key e done = subst IsSome (sym (ap (λ p. get p key) done ∙ get-insert keys_total m key e key ∙ ap (λ b. cond b (Some e) (get m key)) (itself key))) refl
+put_there m n key e done =
+    subst IsSome (sym
+    (ap (λ p. get p key) done ∙ get-insert keys_total m key e key ∙ ap (λ b. cond b (Some e) (get m key)) (itself key)))
+    refl
 
 -- the last change at a key decides
 pub changed : (m : Entries) (w : Writes) (key : Key) (change : Option Entry) → get w.changes key ≡ Some change →

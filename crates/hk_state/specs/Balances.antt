@@ -39,7 +39,9 @@ not_held id (Some other) e = refl
 -- a balance is at most the sum
 pub held_most : (m : Entries) (id : AccountId) (h : Holding) → holding_at m id ≡ Some h → h.balance ≤ balances m
 held_most m id h at =
-    let here = held id (get m (key.Account id)) h at in let most = one_part worth m (key.Account id) in omega (arith, here, most)
+    let here = held id (get m (key.Account id)) h at in
+    let most = one_part worth m (key.Account id) in
+    omega (arith, here, most)
 
 -- a new balance in place of the old one
 pub sum_with : (m : Entries) (id : AccountId) (h : Holding) (balance sequence : ℕ) → holding_at m id ≡ Some h →

@@ -34,5 +34,10 @@ get-with_holding m id balance sequence q apart =
 pub stays : (m : FinMap key_cmp Entry) (id : AccountId) (balance sequence : ℕ) (other : AccountId) →
     IsSome (holding_at m other) → IsSome (holding_at (with_holding m id balance sequence) other)
 stays m id balance sequence other is =
-    subst (λ found. IsSome (as_holding found)) (sym (get-insert keys_total m (key.Account id) (entry.Account balance sequence) (key.Account other)))
-    (elim (is_key (key.Account other) (key.Account id)) as (λ b. IsSome (as_holding (cond b (Some (entry.Account balance sequence)) (get m (key.Account other))))) [ true ↦ refl | false ↦ is ])
+    subst (λ found. IsSome (as_holding found))
+    (sym (get-insert keys_total m (key.Account id) (entry.Account balance sequence) (key.Account other)))
+    (elim (is_key (key.Account other) (key.Account id))
+    as (λ b. IsSome (as_holding (cond b (Some (entry.Account balance sequence)) (get m (key.Account other))))) [
+      | true ↦ refl
+      | false ↦ is
+    ])

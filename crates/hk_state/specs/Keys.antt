@@ -81,10 +81,12 @@ then_equal Greater = refl
 by_spelling : (a b : Key) → key_cmp a b ≡ slice_cmp (slice_cmp nat_cmp) (spell a) (spell b)
 by_spelling (Account a) (Account b) = sym (then_equal (bytes_cmp a.0 b.0))
 by_spelling (Install a m) (Install b n) =
-    sym (ap (ordering_then (bytes_cmp a.0 b.0)) (then_equal (ordering_then (nat_cmp m n) Equal) ∙ then_equal (nat_cmp m n)))
+    sym
+    (ap (ordering_then (bytes_cmp a.0 b.0)) (then_equal (ordering_then (nat_cmp m n) Equal) ∙ then_equal (nat_cmp m n)))
 by_spelling (Definition a) (Definition b) = sym (then_equal (bytes_cmp a.0 b.0))
 by_spelling (State a m j) (State b n k) =
-    sym (ap (λ order. ordering_then (bytes_cmp a.0 b.0) (ordering_then (bytes_cmp m.0 n.0) order)) (then_equal (bytes_cmp j.0 k.0)))
+    sym (ap (λ order. ordering_then (bytes_cmp a.0 b.0) (ordering_then (bytes_cmp m.0 n.0) order))
+    (then_equal (bytes_cmp j.0 k.0)))
 by_spelling (Emitted m) (Emitted n) = sym (then_equal (ordering_then (nat_cmp m n) Equal) ∙ then_equal (nat_cmp m n))
 by_spelling (Other a) (Other b) = sym (then_equal (bytes_cmp a b))
 by_spelling a b = refl
@@ -97,7 +99,8 @@ keys_total =
 pub exact_keys : IsAntisymmetric key_cmp
 exact_keys a b tie =
     sym (unspelled a)
-    ∙ ap unspell (slice_cmp-IsAntisymmetric (slice_cmp-IsAntisymmetric nat_cmp-IsAntisymmetric) (spell a) (spell b) (sym (by_spelling a b) ∙ tie))
+    ∙ ap unspell (slice_cmp-IsAntisymmetric (slice_cmp-IsAntisymmetric nat_cmp-IsAntisymmetric) (spell a) (spell b)
+    (sym (by_spelling a b) ∙ tie))
     ∙ unspelled b
 
 pub order_at : (order : Ordering) → is_eq order ≡ true → order ≡ Equal

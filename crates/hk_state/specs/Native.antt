@@ -1,6 +1,7 @@
 -- The rules for Payment, AccountSet and Invoke. Types and fields are the XRPL's; the results, their order, and the
 -- reserve are this project's own.
-use Rattle.std.specs.Prelude.{ℕ, ◌+◌, ◌-◌, Bool, true, false, ◌&&◌, ◌||◌, ◌==◌, if◌then◌else◌, nat_lt, List, [], ◌∷◌, Option, Some, None, is_none}
+use Rattle.std.specs.Prelude.{ℕ, ◌+◌, ◌-◌, Bool, true, false, ◌&&◌, ◌||◌, ◌==◌, if◌then◌else◌, nat_lt, List, [], ◌∷◌}
+use Rattle.std.specs.Prelude.{Option, Some, None, is_none}
 use Rattle.std.specs.Str.{bytes_eq}
 use Rattle.hk_base.specs.declared.ids.AccountId.{AccountId}
 use Rattle.xo_fields.specs.declared.amount.Amount.{Amount}

@@ -1,5 +1,6 @@
 -- The laws of the rules for Payment, AccountSet and Invoke. This project's own.
-use Rattle.std.specs.Prelude.{◌≡◌, ℕ, ◌+◌, ◌-◌, ◌≤◌, Bool, true, false, ◌==◌, cond, List, [], ◌∷◌, Option, Some, None, IsSome, refl}
+use Rattle.std.specs.Prelude.{◌≡◌, ℕ, ◌+◌, ◌-◌, ◌≤◌, Bool, true, false, ◌==◌, cond, List, [], ◌∷◌, Option, Some, None}
+use Rattle.std.specs.Prelude.{IsSome, refl}
 use Rattle.std.proofs.Common.{◌∙◌, ap, sym, subst, arith}
 use Rattle.std.specs.FinMap.{get}
 use Rattle.std.proofs.lemmas.Bool.{ltb-false}
@@ -46,7 +47,8 @@ pub record Payable (t : Transaction) (to : AccountId) (amount : Amount) (sender 
   pub other : is_key (key.Account to) (key.Account t.account) ≡ false
   pub funded : drops_of amount + kept ≤ sender.balance
 
-pub payable : (t : Transaction) (to : AccountId) (amount : Amount) (sender : Holding) (kept : ℕ) (receiver : Option Holding) →
+pub payable : (t : Transaction) (to : AccountId) (amount : Amount) (sender : Holding) (kept : ℕ)
+    (receiver : Option Holding) →
     first_row (payment_rows t to amount sender kept receiver) ≡ None → Payable t to amount sender kept
 payable t to amount sender kept receiver h =
     let none = none_applies (payment_rows t to amount sender kept receiver) h in
@@ -64,29 +66,35 @@ pays_sum header m n t to amount sender at e =
     let can = payable t to amount sender (reserve m t.account) (holding_at m to) k.0 in
     let funded = can.funded in
     let debit = sum_with m t.account sender (sender.balance - drops) sender.sequence at in
-    let same = ap as_holding (get-with_holding m t.account (sender.balance - drops) sender.sequence (key.Account to) can.other) in
+    let same =
+    ap as_holding (get-with_holding m t.account (sender.balance - drops) sender.sequence (key.Account to) can.other) in
     let credit = credit_sum header (debited m t.account drops sender) to drops (holding_at m to) same in
     let sums = ap balances k.1 in
     omega (arith, funded, debit, credit, sums)
 
-payment_sum : (header : Header) (m n : Entries) (t : Transaction) (to : Option AccountId) (amount : Option Amount) (sender : Option Holding) →
+payment_sum : (header : Header) (m n : Entries) (t : Transaction) (to : Option AccountId) (amount : Option Amount)
+    (sender : Option Holding) →
     holding_at m t.account ≡ sender → payment header m t to amount sender ≡ keeps n → balances n ≡ balances m
 payment_sum header m n t (Some to) (Some amount) (Some sender) at e = pays_sum header m n t to amount sender at e
 payment_sum header m n t to amount sender at e = ap balances (sym (kept e))
 
 pub native_sum : KeepsSum native
 native_sum header m n t e =
-    elim (t.kind == payment_kind) as (λ b. cond b (payment header m t t.destination t.amount (holding_at m t.account)) (keeps m) ≡ keeps n → balances n ≡ balances m) [
+    elim (t.kind == payment_kind) as (λ b.
+    cond b (payment header m t t.destination t.amount (holding_at m t.account)) (keeps m) ≡ keeps n →
+    balances n ≡ balances m) [
       | true ↦ payment_sum header m n t t.destination t.amount (holding_at m t.account) refl
       | false ↦ λ same. ap balances (sym (kept same))
     ] e
 
-credit_stays : (header : Header) (m : Entries) (to : AccountId) (drops : ℕ) (receiver : Option Holding) (id : AccountId) →
+credit_stays : (header : Header) (m : Entries) (to : AccountId) (drops : ℕ) (receiver : Option Holding) (id : AccountId)
+    →
     IsSome (holding_at m id) → IsSome (holding_at (credited header m to drops receiver) id)
 credit_stays header m to drops None id is = stays m to drops header.seq id is
 credit_stays header m to drops (Some receiver) id is = stays m to (receiver.balance + drops) receiver.sequence id is
 
-payment_stays : (header : Header) (m n : Entries) (t : Transaction) (to : Option AccountId) (amount : Option Amount) (sender : Option Holding) (id : AccountId) →
+payment_stays : (header : Header) (m n : Entries) (t : Transaction) (to : Option AccountId) (amount : Option Amount)
+    (sender : Option Holding) (id : AccountId) →
     payment header m t to amount sender ≡ keeps n → IsSome (holding_at m id) → IsSome (holding_at n id)
 payment_stays header m n t (Some to) (Some amount) (Some sender) id e is =
     let k = unless_keeps (first_row (payment_rows t to amount sender (reserve m t.account) (holding_at m to))) _ n e in
@@ -97,7 +105,9 @@ payment_stays header m n t to amount sender id e is = subst (λ p. IsSome (holdi
 
 pub native_accounts : KeepsAccounts native
 native_accounts header m n t id e is =
-    elim (t.kind == payment_kind) as (λ b. cond b (payment header m t t.destination t.amount (holding_at m t.account)) (keeps m) ≡ keeps n → IsSome (holding_at n id)) [
+    elim (t.kind == payment_kind) as (λ b.
+    cond b (payment header m t t.destination t.amount (holding_at m t.account)) (keeps m) ≡ keeps n →
+    IsSome (holding_at n id)) [
       | true ↦ λ pays. payment_stays header m n t t.destination t.amount (holding_at m t.account) id pays is
       | false ↦ λ same. subst (λ p. IsSome (holding_at p id)) (kept same) is
     ] e
@@ -117,7 +127,8 @@ credit_others header m to drops None q h = get-with_holding m to drops header.se
 credit_others header m to drops (Some receiver) q h =
     get-with_holding m to (receiver.balance + drops) receiver.sequence q (other_key q to h)
 
-payment_others : (header : Header) (m n : Entries) (t : Transaction) (to : Option AccountId) (amount : Option Amount) (sender : Option Holding) (q : Key) →
+payment_others : (header : Header) (m n : Entries) (t : Transaction) (to : Option AccountId) (amount : Option Amount)
+    (sender : Option Holding) (q : Key) →
     payment header m t to amount sender ≡ keeps n → may_change q ≡ false → get n q ≡ get m q
 payment_others header m n t (Some to) (Some amount) (Some sender) q e h =
     let k = unless_keeps (first_row (payment_rows t to amount sender (reserve m t.account) (holding_at m to))) _ n e in
@@ -128,7 +139,9 @@ payment_others header m n t to amount sender q e h = ap (λ p. get p q) (sym (ke
 
 pub native_others : KeepsOthers native
 native_others header m n t q e h =
-    elim (t.kind == payment_kind) as (λ b. cond b (payment header m t t.destination t.amount (holding_at m t.account)) (keeps m) ≡ keeps n → get n q ≡ get m q) [
+    elim (t.kind == payment_kind) as (λ b.
+    cond b (payment header m t t.destination t.amount (holding_at m t.account)) (keeps m) ≡ keeps n →
+    get n q ≡ get m q) [
       | true ↦ λ pays. payment_others header m n t t.destination t.amount (holding_at m t.account) q pays h
       | false ↦ λ same. ap (λ p. get p q) (sym (kept same))
     ] e
@@ -146,15 +159,19 @@ named (row ∷ rows) name are e =
       | false ↦ λ is. named rows name are.1 is
     ] e
 
-payment_fails : (header : Header) (m : Entries) (t : Transaction) (to : Option AccountId) (amount : Option Amount) (sender : Option Holding) (name : ResultName) →
+payment_fails : (header : Header) (m : Entries) (t : Transaction) (to : Option AccountId) (amount : Option Amount)
+    (sender : Option Holding) (name : ResultName) →
     payment header m t to amount sender ≡ fails name → is_failure name ≡ true
 payment_fails header m t (Some to) (Some amount) (Some sender) name e =
-    named (payment_rows t to amount sender (reserve m t.account) (holding_at m to)) name (refl, (refl, (refl, (refl, tt)))) (unless_fails _ _ name e)
+    named (payment_rows t to amount sender (reserve m t.account) (holding_at m to)) name
+    (refl, (refl, (refl, (refl, tt)))) (unless_fails _ _ name e)
 payment_fails header m t to amount sender name e = cc
 
 pub native_failures : NamesFailures native
 native_failures header m t name e =
-    elim (t.kind == payment_kind) as (λ b. cond b (payment header m t t.destination t.amount (holding_at m t.account)) (keeps m) ≡ fails name → is_failure name ≡ true) [
+    elim (t.kind == payment_kind) as (λ b.
+    cond b (payment header m t t.destination t.amount (holding_at m t.account)) (keeps m) ≡ fails name →
+    is_failure name ≡ true) [
       | true ↦ payment_fails header m t t.destination t.amount (holding_at m t.account) name
       | false ↦ λ bad. cc
     ] e

@@ -17,4 +17,7 @@ module _ {R : Type 0} where
 
   pub none_first : (row : Bool × R) (rows : List (Bool × R)) → first_row (row ∷ rows) ≡ None → first_row rows ≡ None
   none_first row rows h =
-      elim row.0 as (λ b. cond b (Some row.1) (first_row rows) ≡ None → first_row rows ≡ None) [ true ↦ λ applies. cc | false ↦ λ rest. rest ] h
+      elim row.0 as (λ b. cond b (Some row.1) (first_row rows) ≡ None → first_row rows ≡ None) [
+        | true ↦ λ applies. cc
+        | false ↦ λ rest. rest
+      ] h

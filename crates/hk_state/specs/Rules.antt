@@ -8,7 +8,9 @@ use Rattle.xo_list.specs.Value.{IsObject}
 use Rattle.xo_object.specs.declared.transaction.Transaction.{Transaction}
 use Rattle.xo_object.specs.Transaction.{IsTransaction}
 use Rattle.hk_lines.specs.declared.result_name.ResultName.{ResultName}
-use Rattle.hk_lines.specs.declared.result_name.ResultName.TheVariants.{Unsupported, Redundant, NoDestination, Unfunded, Occupied, HookRefused, NoDefinition, NoInstall, Reserve}
+use Rattle.hk_lines.specs.declared.result_name.ResultName.TheVariants.{Unsupported, Redundant, NoDestination, Unfunded}
+use Rattle.hk_lines.specs.declared.result_name.ResultName.TheVariants.{Occupied, HookRefused, NoDefinition, NoInstall}
+use Rattle.hk_lines.specs.declared.result_name.ResultName.TheVariants.{Reserve}
 use Rattle.hk_state.specs.declared.key.Key.{Key}
 use Rattle.hk_state.specs.declared.key.Key.TheVariants as key
 use Rattle.hk_state.specs.declared.key.StateKey.{StateKey}
@@ -88,4 +90,5 @@ is_failure other = false
 
 abbrev pub NamesFailures : Rules → Type 0
 NamesFailures rules =
-    (header : Header) (m : Entries) (t : Transaction) (name : ResultName) → rules header m t ≡ fails name → is_failure name ≡ true
+    (header : Header) (m : Entries) (t : Transaction) (name : ResultName) → rules header m t ≡ fails name →
+    is_failure name ≡ true

@@ -1,11 +1,14 @@
 -- Sums over the entries of a map, of a number that a key and its entry give. This project's own.
-use Rattle.std.specs.Prelude.{◌≡◌, ℕ, zero, suc, ◌+◌, ◌-◌, ◌≤◌, Bool, true, false, cond, ◌&&◌, T, List, [], ◌∷◌, length, Option, Some, None, is_some, refl}
+use Rattle.std.specs.Prelude.{◌≡◌, ℕ, zero, suc, ◌+◌, ◌-◌, ◌≤◌, Bool, true, false, cond, ◌&&◌, T, List, [], ◌∷◌, length}
+use Rattle.std.specs.Prelude.{Option, Some, None, is_some, refl}
 use Rattle.std.proofs.Common.{◌∙◌, ap, sym, arith}
 use Rattle.std.specs.declared.cmp.Ordering.{Ordering}
 use Rattle.std.specs.declared.cmp.Ordering.TheVariants.{Less, Equal, Greater}
 use Rattle.std.specs.Ordering.{is_lt}
 use Rattle.std.specs.Cmp.{IsTotalOrder}
-use Rattle.std.specs.FinMap.{IsAntisymmetric, get, insert, remove, find, put, is_sorted, entries, get-entries, get-insert, get-remove, entries-insert, entries_sorted, same_map, empty, len, len-entries, len-empty, len-remove, contains_key}
+use Rattle.std.specs.FinMap.{IsAntisymmetric, get, insert, remove, find, put, is_sorted, entries, get-entries}
+use Rattle.std.specs.FinMap.{get-insert, get-remove, entries-insert, entries_sorted, same_map, empty, len, len-entries}
+use Rattle.std.specs.FinMap.{len-empty, len-remove, contains_key}
 use Rattle.hk_state.specs.declared.key.Key.{Key}
 use Rattle.hk_state.specs.declared.entry.Entry.{Entry}
 use Rattle.hk_state.specs.Keys.{key_cmp, is_key, keys_total, exact_keys, itself, exact}
@@ -57,15 +60,21 @@ module _ {K X : Type 0} (R : K → K → Ordering) (o : IsTotalOrder R) (one : I
       total f (put R k v es) + part f k (find R k es) ≡ total f es + f k v
   sum_put k v [] h = omega arith
   sum_put k v (e ∷ es) h =
-      elim (R k e.0) as (λ r. R k e.0 ≡ r → total f (put R k v (e ∷ es)) + part f k (find R k (e ∷ es)) ≡ total f (e ∷ es) + f k v) [
+      elim (R k e.0)
+      as (λ r. R k e.0 ≡ r → total f (put R k v (e ∷ es)) + part f k (find R k (e ∷ es)) ≡ total f (e ∷ es) + f k v) [
         | Less ↦ λ p. rw p (rw (none_below k e.0 es p (first _ _ h)) (omega arith))
-        | Equal ↦ λ p. let old = ap (λ x. f x e.1) (one k e.0 p) in let new = ap (λ x. f x v) (one k e.0 p) in rw p (omega (arith, old, new))
+        | Equal ↦
+            λ p.
+            let old = ap (λ x. f x e.1) (one k e.0 p) in
+            let new = ap (λ x. f x v) (one k e.0 p) in
+            rw p (omega (arith, old, new))
         | Greater ↦ λ p. rw p (let more = sum_put k v es (second (below R e.0 es) _ h) in omega (arith, more))
       ] refl
 
 module _ (f : Key → Entry → ℕ) where
   inserted : (m : Entries) (key : Key) (e : Entry) →
-      total f (put key_cmp key e (entries m)) + part f key (find key_cmp key (entries m)) ≡ total f (entries m) + f key e
+      total f (put key_cmp key e (entries m)) + part f key (find key_cmp key (entries m))
+      ≡ total f (entries m) + f key e
   inserted m key e = sum_put key_cmp keys_total exact_keys f key e (entries m) (entries_sorted m)
 
   -- what is added at a key, less what was there
@@ -135,7 +144,10 @@ module _ (f g : Key → Entry → ℕ) where
   alike_removed : (m n : Entries) (k : Key) → AreAlike f g m n → AreAlike f g (remove m k) (remove n k)
   alike_removed m n k alike q =
       ap (part f q) (get-remove keys_total m k q)
-      ∙ elim (is_key q k) as (λ b. part f q (cond b None (get m q)) ≡ part g q (cond b None (get n q))) [ true ↦ refl | false ↦ alike q ]
+      ∙ elim (is_key q k) as (λ b. part f q (cond b None (get m q)) ≡ part g q (cond b None (get n q))) [
+        | true ↦ refl
+        | false ↦ alike q
+      ]
       ∙ sym (ap (part g q) (get-remove keys_total n k q))
 
   -- without a key in both, the sums stay alike
@@ -156,9 +168,11 @@ module _ (f g : Key → Entry → ℕ) where
   one_fewer : (m : Entries) (k : Key) (e : Entry) (es : List (Key × Entry)) → entries m ≡ (k, e) ∷ es →
       len (remove m k) + 1 ≡ len m
   one_fewer m k e es is =
-      let there : get m k ≡ Some e = get-entries m k ∙ ap (find key_cmp k) is ∙ ap (λ b. cond b (Some e) (find key_cmp k es)) (itself k) in
+      let there : get m k ≡ Some e =
+      get-entries m k ∙ ap (find key_cmp k) is ∙ ap (λ b. cond b (Some e) (find key_cmp k es)) (itself k) in
       let size : len m ≡ suc (length es) = len-entries m ∙ ap length is in
-      let less : len (remove m k) ≡ len m - 1 = len-remove keys_total m k ∙ ap (λ b. cond b (len m - 1) (len m)) (ap is_some there) in
+      let less : len (remove m k) ≡ len m - 1 =
+      len-remove keys_total m k ∙ ap (λ b. cond b (len m - 1) (len m)) (ap is_some there) in
       omega (arith, size, less)
 
   none_there : (h : Key → Entry → ℕ) (m : Entries) → entries m ≡ [] → sum h m ≡ 0
@@ -177,11 +191,13 @@ module _ (f g : Key → Entry → ℕ) where
   sums_by (suc most) m n (e ∷ es) fs a b few alike =
       let less = one_fewer m e.0 e.1 es a in
       let also = fewer n e.0 in
-      without m n e.0 alike (sums_by most (remove m e.0) (remove n e.0) (entries (remove m e.0)) (entries (remove n e.0)) refl refl (omega (arith, few, less, also)) (alike_removed m n e.0 alike))
+      without m n e.0 alike (sums_by most (remove m e.0) (remove n e.0) (entries (remove m e.0))
+      (entries (remove n e.0)) refl refl (omega (arith, few, less, also)) (alike_removed m n e.0 alike))
   sums_by (suc most) m n [] (e ∷ es) a b few alike =
       let less = one_fewer n e.0 e.1 es b in
       let also = fewer m e.0 in
-      without m n e.0 alike (sums_by most (remove m e.0) (remove n e.0) (entries (remove m e.0)) (entries (remove n e.0)) refl refl (omega (arith, few, less, also)) (alike_removed m n e.0 alike))
+      without m n e.0 alike (sums_by most (remove m e.0) (remove n e.0) (entries (remove m e.0))
+      (entries (remove n e.0)) refl refl (omega (arith, few, less, also)) (alike_removed m n e.0 alike))
 
   -- sums are alike where all parts are
   pub sum-alike : (m n : Entries) → AreAlike f g m n → sum f m ≡ sum g n

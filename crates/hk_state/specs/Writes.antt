@@ -1,5 +1,6 @@
 -- Writes to the entries of a ledger that aren't made yet. This project's own.
-use Rattle.std.specs.Prelude.{◌≡◌, ℕ, ◌++◌, ◌∷◌, Bool, true, false, cond, if◌then◌else◌, List, [], slice_get, Option, Some, None, refl}
+use Rattle.std.specs.Prelude.{◌≡◌, ℕ, ◌++◌, ◌∷◌, Bool, true, false, cond, if◌then◌else◌, List, [], slice_get, Option}
+use Rattle.std.specs.Prelude.{Some, None, refl}
 use Rattle.std.proofs.Common.{◌∙◌, ap, sym}
 use Rattle.std.specs.Option.{option_map}
 use Rattle.std.specs.List.{list_any}
@@ -61,7 +62,8 @@ get-with_writes m w q =
 
 pub with_new : (m : Entries) → with_writes m new_writes ≡ m
 with_new m =
-    map.same_map keys_total exact_keys _ _ (λ q. get-with_writes m new_writes q ∙ ap (λ found. change_or found (map.get m q)) (map.get-empty key_cmp q))
+    map.same_map keys_total exact_keys _ _
+    (λ q. get-with_writes m new_writes q ∙ ap (λ found. change_or found (map.get m q)) (map.get-empty key_cmp q))
 
 decided : (b : Bool) (change : Option Entry) (found : Option (Option Entry)) (old : Option Entry) →
     change_or (cond b (Some change) found) old ≡ cond b change (change_or found old)

@@ -14,7 +14,8 @@ use std::alloc::{AllocError, Global};
 
 /// Makes all writes. A refused call changes nothing, and comes only where an entry is written under a new key.
 ///
-/// The new keys come first, each with a placeholder, and are taken out again where one is refused. What follows takes no memory.
+/// The new keys come first, each with a placeholder, and are taken out again where one is refused. What follows takes
+/// no memory.
 pub fn make_all(alloc: Global, entries: &mut Entries, overlay: Overlay) -> Result<(), NoMemory>
     ensures ok { OnOk result (entries.new ≡ with_writes entries.old overlay) }
     ensures err { OnErr result (entries.new ≡ entries.old) }
@@ -61,7 +62,8 @@ fn make_place(
     added: &mut Vec<Key>,
     key: &Key,
 ) -> Result<(), NoMemory>
-    ensures adds { (base : Entries) (puts : Key → Bool) → puts key.now ≡ true → Adds base puts entries.old added.old.items → Adds base puts entries.new added.new.items }
+    ensures adds { (base : Entries) (puts : Key → Bool) → puts key.now ≡ true →
+        Adds base puts entries.old added.old.items → Adds base puts entries.new added.new.items }
     ensures there { OnOk result (IsSome (map.get entries.new key.now)) }
     ensures stays { (q : Key) → IsSome (map.get entries.old q) → IsSome (map.get entries.new q) }
     ensures cause { OnErr result (map.get entries.old key.now ≡ None) }

@@ -13,7 +13,8 @@ pub enum Entry {
         balance: u64,
         sequence: u32,
     },
-    /// A hook that is installed: the hash of its code, its mask of transaction types, its namespace, parameters and grants.
+    /// A hook that is installed: the hash of its code, its mask of transaction types, its namespace, parameters and
+    /// grants.
     Install {
         hash: Hash256,
         on: Hash256,
@@ -30,7 +31,8 @@ pub enum Entry {
     },
     /// The bytes that a hook keeps.
     State(Items<u8>),
-    /// A transaction that a hook of that hash emitted, the first and the last ledger that takes it, and the account to call back.
+    /// A transaction that a hook of that hash emitted, the first and the last ledger that takes it, and the account to
+    /// call back.
     Emitted {
         blob: Items<u8>,
         hash: Hash256,

@@ -1,7 +1,8 @@
 //! The fee that a transaction needs.
 ghost use Rattle.std.specs.Prelude.{◌≡◌, ◌<◌, ◌^◌, Some};
 ghost use Rattle.std.specs.Option.{option_copied};
-ghost use Rattle.hk_state.specs.Fees.{needed_fee, chain_fee, destination_fee, code_fee, item_fee, bound_of, fired_bound};
+ghost use Rattle.hk_state.specs.Fees.{needed_fee, chain_fee, destination_fee, code_fee, item_fee, bound_of};
+ghost use Rattle.hk_state.specs.Fees.{fired_bound};
 
 use crate::firing::fires;
 use crate::installs::{install_at, next_install};
@@ -18,7 +19,8 @@ const BYTE_FEE: u64 = 10;
 /// How many hooks an account can have.
 const POSITIONS: u8 = 10;
 
-/// The fee that a transaction needs, in drops: 10, the bounds of the hooks of its account, and of its destination if that is
+/// The fee that a transaction needs, in drops: 10, the bounds of the hooks of its account, and of its destination if
+/// that is
 /// another, that fire on its type, and 10 for each byte of new code. It takes no memory.
 pub fn needed_fee(ledger: &Ledger, transaction: &Transaction) -> u64
     requires fits { needed_fee ledger.now.entries transaction.now < 2 ^ 64 }

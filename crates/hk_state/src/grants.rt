@@ -10,8 +10,10 @@ use crate::{Entry, Key, Ledger};
 use hk_base::{AccountId, Hash256};
 use xo_object::Grant;
 
-/// Whether the hook of a hash on the actor's account may write state of the owner's in a namespace: the owner's is its own,
-/// or some hook of the owner in that namespace grants it to that hash, for any account or for the actor. It takes no memory.
+/// Whether the hook of a hash on the actor's account may write state of the owner's in a namespace: the owner's is its
+/// own,
+/// or some hook of the owner in that namespace grants it to that hash, for any account or for the actor. It takes no
+/// memory.
 pub fn may_write(
     ledger: &Ledger,
     hash: &Hash256,
@@ -32,7 +34,9 @@ fn is_granted_by(
     owner: &AccountId,
     namespace: &Hash256,
 ) -> bool
-    ensures granted { result ≡ list_any (λ e. is_own (first_install owner.now) e.0 && has_grant hash.now actor.now namespace.now e.1) (map.entries ledger.now.entries) }
+    ensures granted { result
+        ≡ list_any (λ e. is_own (first_install owner.now) e.0 && has_grant hash.now actor.now namespace.now e.1)
+        (map.entries ledger.now.entries) }
 {
     let first = Key::Install(*owner, 0);
     let mut next = ledger.least_from(&first);

@@ -18,7 +18,8 @@ use std::ops::Bound;
 
 /// The least entry from a bound on.
 pub fn least_entry<'a>(entries: &'a Entries, start: Bound<&Key>) -> Option<(&'a Key, &'a Entry)>
-    ensures least { Least entries.now (is_from_start key_cmp (bound_map (λ key. key.now) start.entry)) (option_map deref_pair result) }
+    ensures least { Least entries.now (is_from_start key_cmp (bound_map (λ key. key.now) start.entry))
+        (option_map deref_pair result) }
 {
     entries.kept.range((start, Bound::Unbounded)).next()
 }
@@ -29,7 +30,8 @@ pub fn least_with<'a>(
     writes: &'a IndexMap<Key, Option<Entry>>,
     start: Bound<&Key>,
 ) -> Option<(&'a Key, &'a Entry)>
-    ensures least { Least (with_all entries.now writes.now.entries) (is_from_start key_cmp (bound_map (λ key. key.now) start.entry)) (option_map deref_pair result) }
+    ensures least { Least (with_all entries.now writes.now.entries)
+        (is_from_start key_cmp (bound_map (λ key. key.now) start.entry)) (option_map deref_pair result) }
 {
     let kept = least_unwritten(entries, writes, start);
     let put = least_put(writes, start);
@@ -42,7 +44,8 @@ fn least_unwritten<'a>(
     writes: &IndexMap<Key, Option<Entry>>,
     start: Bound<&Key>,
 ) -> Option<(&'a Key, &'a Entry)>
-    ensures least { LeastOf (λ q. unless_changed (map.find key_cmp q writes.now.entries) (map.get entries.now q)) (is_from_start key_cmp (bound_map (λ key. key.now) start.entry)) (option_map deref_pair result) }
+    ensures least { LeastOf (λ q. unless_changed (map.find key_cmp q writes.now.entries) (map.get entries.now q))
+        (is_from_start key_cmp (bound_map (λ key. key.now) start.entry)) (option_map deref_pair result) }
 {
     for (key, entry) in entries.kept.range((start, Bound::Unbounded)) {
         if !writes.contains_key(key) {
@@ -57,7 +60,8 @@ fn least_put<'a>(
     writes: &'a IndexMap<Key, Option<Entry>>,
     start: Bound<&Key>,
 ) -> Option<(&'a Key, &'a Entry)>
-    ensures least { LeastOf (λ q. put_of (map.find key_cmp q writes.now.entries)) (is_from_start key_cmp (bound_map (λ key. key.now) start.entry)) (option_map deref_pair result) }
+    ensures least { LeastOf (λ q. put_of (map.find key_cmp q writes.now.entries))
+        (is_from_start key_cmp (bound_map (λ key. key.now) start.entry)) (option_map deref_pair result) }
 {
     let mut least = None;
     for (key, change) in writes.iter() {
@@ -73,7 +77,9 @@ fn lesser_put<'a>(
     key: &'a Key,
     change: &'a Option<Entry>,
 ) -> Option<(&'a Key, &'a Entry)>
-    ensures lesser { option_map deref_pair result ≡ with_put (is_from_start key_cmp (bound_map (λ k. k.now) start.entry)) (option_map deref_pair least.entry) key.now change.now }
+    ensures lesser { option_map deref_pair result
+        ≡ with_put (is_from_start key_cmp (bound_map (λ k. k.now) start.entry)) (option_map deref_pair least.entry)
+        key.now change.now }
 {
     match change {
         None => least,
@@ -102,7 +108,8 @@ fn lesser<'a>(
     one: Option<(&'a Key, &'a Entry)>,
     other: Option<(&'a Key, &'a Entry)>,
 ) -> Option<(&'a Key, &'a Entry)>
-    ensures lesser { option_map deref_pair result ≡ lesser (option_map deref_pair one.entry) (option_map deref_pair other.entry) }
+    ensures lesser { option_map deref_pair result
+        ≡ lesser (option_map deref_pair one.entry) (option_map deref_pair other.entry) }
 {
     match (one, other) {
         (Some(one), Some(other)) => {

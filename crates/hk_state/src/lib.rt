@@ -1,4 +1,5 @@
-//! The ledger as a map from keys to entries, changes to it that are made whole or not at all, and the rules for transactions.
+//! The ledger as a map from keys to entries, changes to it that are made whole or not at all, and the rules for
+//! transactions.
 #![tactic(auto)]
 
 mod commit;

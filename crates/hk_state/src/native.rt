@@ -97,7 +97,9 @@ fn pay(
     requires sender { holding_at (with_writes ledger.now.entries overlay) transaction.now.account ≡ Some sender }
     requires sum { balances (with_writes ledger.now.entries overlay) ≤ 100000000000000000 }
     requires reserves { (id : AccountId) → reserve (with_writes ledger.now.entries overlay) id < 2 ^ 64 }
-    ensures meaning { IfOk result (λ done. Means ledger.now.entries overlay done (payment ledger.now.header (with_writes ledger.now.entries overlay) transaction.now (Some to.now) (Some amount.now) (Some sender))) }
+    ensures meaning { IfOk result (λ done.
+        Means ledger.now.entries overlay done (payment ledger.now.header (with_writes ledger.now.entries overlay)
+        transaction.now (Some to.now) (Some amount.now) (Some sender))) }
 {
     let receiver = overlay.holding(ledger, to);
     let kept = reserve(ledger, &overlay, &transaction.account);

@@ -23,7 +23,8 @@ use std::ops::Bound;
 
 /// Writes to a ledger that aren't made yet.
 ///
-/// Contracts see the last change at each key, and the keys that were written since the last `relist`, by their first write there.
+/// Contracts see the last change at each key, and the keys that were written since the last `relist`, by their first
+/// write there.
 #[derive(Drop)]
 pub struct Overlay {
     pub(crate) writes: IndexMap<Key, Option<Entry>>,
@@ -41,7 +42,11 @@ impl Model for Overlay {
 
     ghost coded = { coded_writes };
 
-    ghost view = { λ overlay. record { changes = map.from_entries overlay.writes.entries; listed = drop overlay.from (keys overlay.writes) } };
+    ghost view = { λ overlay.
+        record {
+          changes = map.from_entries overlay.writes.entries;
+          listed = drop overlay.from (keys overlay.writes);
+        } };
 
     ghost invariant = { λ overlay. overlay.from ≤ index_map_len overlay.writes };
 }
@@ -69,14 +74,16 @@ impl Overlay {
 
     /// The least entry of the ledger with all writes made whose key isn't below a key, if there is one.
     pub fn least_from<'a>(&'a self, ledger: &'a Ledger, key: &Key) -> Option<(&'a Key, &'a Entry)>
-        ensures least { Least (with_writes ledger.now.entries self.now) (is_from key.now) (option_map deref_pair result) }
+        ensures least { Least (with_writes ledger.now.entries self.now) (is_from key.now)
+            (option_map deref_pair result) }
     {
         least_with(&ledger.entries, &self.writes, Bound::Included(key))
     }
 
     /// The least entry of the ledger with all writes made whose key is above a key, if there is one.
     pub fn least_after<'a>(&'a self, ledger: &'a Ledger, key: &Key) -> Option<(&'a Key, &'a Entry)>
-        ensures least { Least (with_writes ledger.now.entries self.now) (is_after key.now) (option_map deref_pair result) }
+        ensures least { Least (with_writes ledger.now.entries self.now) (is_after key.now)
+            (option_map deref_pair result) }
     {
         least_with(&ledger.entries, &self.writes, Bound::Excluded(key))
     }
@@ -143,8 +150,11 @@ impl Overlay {
 
     /// Sets an account's balance and sequence. A refused call changes nothing.
     pub fn put_holding(&mut self, id: &AccountId, holding: Holding) -> Result<(), NoMemory>
-        ensures ok { OnOk result (self.new ≡ written self.old (key.Account id.now) (Some (entry.Account holding.balance holding.sequence))) }
-        ensures made { OnOk result ((m : Entries) → with_writes m self.new ≡ with_holding (with_writes m self.old) id.now holding.balance holding.sequence) }
+        ensures ok { OnOk result
+            (self.new ≡ written self.old (key.Account id.now) (Some (entry.Account holding.balance holding.sequence))) }
+        ensures made { OnOk result
+            ((m : Entries) →
+            with_writes m self.new ≡ with_holding (with_writes m self.old) id.now holding.balance holding.sequence) }
         ensures err { OnErr result (self.new ≡ self.old) }
     {
         self.put(
@@ -203,12 +213,15 @@ fn add_write(
     }
 }
 
-// Moves a write that was made before the last relist behind all others, and gives how many are then left from before it.
+// Moves a write that was made before the last relist behind all others, and gives how many are then left from before
+// it.
 fn bring_last(writes: &mut IndexMap<Key, Option<Entry>>, from: usize, key: &Key) -> usize
     requires within { from ≤ index_map_len writes.old }
     ensures within { result ≤ index_map_len writes.new }
     ensures same { (q : Key) → get eq-value.it writes.new q ≡ get eq-value.it writes.old q }
-    ensures listed { MatchOption (get eq-value.it writes.old key.now) ((result ≡ from) × (writes.new.entries ≡ writes.old.entries)) (λ _. drop result (keys writes.new) ≡ note key.now (drop from (keys writes.old))) }
+    ensures listed { MatchOption (get eq-value.it writes.old key.now)
+        ((result ≡ from) × (writes.new.entries ≡ writes.old.entries))
+        (λ _. drop result (keys writes.new) ≡ note key.now (drop from (keys writes.old))) }
 {
     match writes.get_full(key) {
         Some((at, _, _)) if at < from => {

@@ -28,7 +28,8 @@ pub enum Done {
 pub trait Transactor {
     ghost rules: { Rules };
 
-    /// Performs a transaction of an account on the ledger with the overlay's writes. The kept overlay lists the State keys
+    /// Performs a transaction of an account on the ledger with the overlay's writes. The kept overlay lists the State
+    /// keys
     /// that were listed before, in their order.
     fn perform(
         &self,
@@ -41,7 +42,9 @@ pub trait Transactor {
         requires sender { IsSome (holding_at (with_writes ledger.now.entries overlay) transaction.now.account) }
         requires sum { balances (with_writes ledger.now.entries overlay) ≤ 100000000000000000 }
         requires reserves { (id : AccountId) → reserve (with_writes ledger.now.entries overlay) id < 2 ^ 64 }
-        ensures meaning { IfOk result (λ done. Means ledger.now.entries overlay done (rules ledger.now.header (with_writes ledger.now.entries overlay) transaction.now)) };
+        ensures meaning { IfOk result (λ done.
+            Means ledger.now.entries overlay done
+            (rules ledger.now.header (with_writes ledger.now.entries overlay) transaction.now)) };
 
     ghost keeps_sum: { KeepsSum rules };
 

@@ -1,13 +1,19 @@
 -- Modules are read as they are spelled.
-use Rattle.std.proofs.Common.{◌≡◌, ℕ, zero, suc, ◌≤◌, ◌⊎◌, inl, inr, Bool, true, false, nat_lt, nat_le, ◌==◌, ◌&&◌, if◌then◌else◌, List, [], ◌∷◌, ◌++◌, length, Option, Some, None, MatchOption, Result, Ok, Err, IfOk, take, drop, refl, sym, ap, ap₂, ◌∙◌, subst, arith}
+use Rattle.std.proofs.Common.{◌≡◌, ℕ, zero, suc, ◌≤◌, ◌⊎◌, inl, inr, Bool, true, false, nat_lt, nat_le, ◌==◌, ◌&&◌}
+use Rattle.std.proofs.Common.{if◌then◌else◌, List, [], ◌∷◌, ◌++◌, length, Option, Some, None, MatchOption, Result, Ok}
+use Rattle.std.proofs.Common.{Err, IfOk, take, drop, refl, sym, ap, ap₂, ◌∙◌, subst, arith}
 use Rattle.std.proofs.lemmas.Option.{same_Some as some_is}
 use Rattle.std.proofs.lemmas.Bool.{and_parts as both_true}
 use Rattle.std.proofs.lemmas.Bool.{eq-eqb, eqb-true, ltb-true, lt-ltb, leb-true, le-leb}
 use Rattle.std.proofs.lemmas.Bool.Decides.{nat_tests}
 use Rattle.wa_ops.specs.declared.modules.Module.{Module}
 use Rattle.wa_decode.specs.Grammar.{IsUnsigned, SpellsAll, SpellsVector}
-use Rattle.wa_decode.specs.ModuleReading.{func_type_at, limits_at, table_type_at, import_at, global_at, export_at, element_at, code_at, segment_at, start_at, section, section_at, sections_at, highest_at, part_of, part_at, parts_at, behind, module_at}
-use Rattle.wa_decode.specs.Modules.{SpellsFuncType, SpellsLimits, SpellsTable, SpellsImport, SpellsGlobal, SpellsExport, SpellsElement, SpellsCode, SpellsSegment, SpellsStart, Section, SpellsSection, IsOrdered, body_of, Part, HasParts, header, Spells, OneModule}
+use Rattle.wa_decode.specs.ModuleReading.{func_type_at, limits_at, table_type_at, import_at, global_at, export_at}
+use Rattle.wa_decode.specs.ModuleReading.{element_at, code_at, segment_at, start_at, section, section_at, sections_at}
+use Rattle.wa_decode.specs.ModuleReading.{highest_at, part_of, part_at, parts_at, behind, module_at}
+use Rattle.wa_decode.specs.Modules.{SpellsFuncType, SpellsLimits, SpellsTable, SpellsImport, SpellsGlobal, SpellsExport}
+use Rattle.wa_decode.specs.Modules.{SpellsElement, SpellsCode, SpellsSegment, SpellsStart, Section, SpellsSection}
+use Rattle.wa_decode.specs.Modules.{IsOrdered, body_of, Part, HasParts, header, Spells, OneModule}
 use Rattle.wa_decode.specs.Reading.{◌>>=◌, Gives, unsigned_at, bytes_at, vector_at}
 use Rattle.wa_decode.specs.declared.fault.DecodeFault.{DecodeFault}
 use Rattle.wa_decode.specs.declared.fault.DecodeFault.TheVariants.{Malformed, NoMemory}
@@ -15,16 +21,20 @@ use lib.Dec.{eqb}
 use lib.Pointwise.{pointwise}
 use Rattle.wa_decode.proofs.ExpressionReaders.{items_long}
 use Rattle.wa_decode.proofs.NumberReaders.{unsigned_reader, bytes_reader, vector_reader, whole_forth, whole_back}
-use Rattle.wa_decode.proofs.PartReaders.{func_type_reader, limits_reader, table_type_reader, import_reader, global_reader, export_reader, element_reader, code_reader, segment_reader, start_reader}
+use Rattle.wa_decode.proofs.PartReaders.{func_type_reader, limits_reader, table_type_reader, import_reader}
+use Rattle.wa_decode.proofs.PartReaders.{global_reader, export_reader, element_reader, code_reader, segment_reader}
+use Rattle.wa_decode.proofs.PartReaders.{start_reader}
 use Rattle.wa_decode.proofs.Readers.{Reader, bind_some, guard_some, choice_some, some_both}
 
 -- ---- sections
 
-section_forth : (s : Section) (front rest : List ℕ) → SpellsSection s front → section_at (front ++ rest) ≡ Some (s, rest)
+section_forth : (s : Section) (front rest : List ℕ) → SpellsSection s front →
+    section_at (front ++ rest) ≡ Some (s, rest)
 unfolding section_at
 section_forth s front rest h = ap (λ bs. section_at (bs ++ rest)) h.2 ∙ rw (bytes_reader.forth s.body h.0 rest h.1) refl
 
-section_back : (bytes : List ℕ) (s : Section) (rest : List ℕ) → section_at bytes ≡ Some (s, rest) → (front : List ℕ) × SpellsSection s front × (bytes ≡ front ++ rest)
+section_back : (bytes : List ℕ) (s : Section) (rest : List ℕ) → section_at bytes ≡ Some (s, rest) →
+    (front : List ℕ) × SpellsSection s front × (bytes ≡ front ++ rest)
 unfolding section_at
 section_back [] s rest e = absurd cc
 section_back (id ∷ bytes) s rest e =
@@ -40,16 +50,19 @@ section_reader = record { forth = section_forth; back = section_back }
 pub no_section : (s : Section) → SpellsSection s [] → ⊥
 no_section s h = absurd cc (h.2)
 
-sections_forth : (ss : List Section) (n : ℕ) (front : List ℕ) → length ss ≤ n → SpellsAll SpellsSection ss front → sections_at n front ≡ Some ss
+sections_forth : (ss : List Section) (n : ℕ) (front : List ℕ) → length ss ≤ n → SpellsAll SpellsSection ss front →
+    sections_at n front ≡ Some ss
 unfolding sections_at
 sections_forth [] n front l h = ap (sections_at n) h
 sections_forth (s ∷ ss) zero front l h = absurd (omega arith)
 sections_forth (s ∷ ss) (suc n) front l h =
     let e : front ≡ s.id ∷ (h.2.0 ++ h.1) = h.4 ∙ ap (λ bs. bs ++ h.1) h.2.2 in
-    let f : section_at (s.id ∷ (h.2.0 ++ h.1)) ≡ Some (s, h.1) = section_forth s (s.id ∷ h.2.0) h.1 (h.2.0, h.2.1, refl) in
+    let f : section_at (s.id ∷ (h.2.0 ++ h.1)) ≡ Some (s, h.1) =
+    section_forth s (s.id ∷ h.2.0) h.1 (h.2.0, h.2.1, refl) in
     ap (sections_at (suc n)) e ∙ rw (f, sections_forth ss n h.1 (omega (arith, l)) h.3) refl
 
-sections_back : (n : ℕ) (bytes : List ℕ) (ss : List Section) → sections_at n bytes ≡ Some ss → SpellsAll SpellsSection ss bytes
+sections_back : (n : ℕ) (bytes : List ℕ) (ss : List Section) → sections_at n bytes ≡ Some ss →
+    SpellsAll SpellsSection ss bytes
 unfolding sections_at
 sections_back n [] ss e =
     let P : List Section → Type 0 = λ xs. SpellsAll SpellsSection xs [] in
@@ -71,7 +84,8 @@ unfolding highest_at
 highest_forth [] last o = (last, refl)
 highest_forth (s ∷ ss) last (inl h) =
     let r = highest_forth ss last h.2 in
-    let n : bytes_at s.body ≡ Some (h.1.2.0, h.1.1) = ap bytes_at h.1.4 ∙ bytes_reader.forth h.1.2.0 h.1.0 h.1.1 h.1.2.1 in
+    let n : bytes_at s.body ≡ Some (h.1.2.0, h.1.1) =
+    ap bytes_at h.1.4 ∙ bytes_reader.forth h.1.2.0 h.1.0 h.1.1 h.1.2.1 in
     (r.0, rw (eq-eqb s.id 0 h.0, n, r.1) refl)
 highest_forth (s ∷ ss) last (inr h) =
     let r = highest_forth ss s.id h.2 in
@@ -82,10 +96,15 @@ highest_back : (ss : List Section) (last high : ℕ) → highest_at last ss ≡ 
 unfolding highest_at
 highest_back [] last high e = tt
 highest_back (s ∷ ss) last high e =
-    split (choice_some (s.id == 0) (bytes_at s.body >>= λ name. highest_at last ss) (if nat_lt last s.id && nat_le s.id 11 then highest_at s.id ss else None) high e) (highest_back ss last high) (highest_back ss s.id high)
+    split (choice_some (s.id == 0) (bytes_at s.body >>= λ name. highest_at last ss)
+    (if nat_lt last s.id && nat_le s.id 11 then highest_at s.id ss else None) high e) (highest_back ss last high)
+    (highest_back ss s.id high)
   where
-    split : (((s.id == 0) ≡ true) × ((bytes_at s.body >>= λ name. highest_at last ss) ≡ Some high)) ⊎ (((s.id == 0) ≡ false) × ((if nat_lt last s.id && nat_le s.id 11 then highest_at s.id ss else None) ≡ Some high))
-        → (highest_at last ss ≡ Some high → IsOrdered last ss) → (highest_at s.id ss ≡ Some high → IsOrdered s.id ss) → IsOrdered last (s ∷ ss)
+    split : (((s.id == 0) ≡ true) × ((bytes_at s.body >>= λ name. highest_at last ss) ≡ Some high))
+        ⊎ (((s.id == 0) ≡ false)
+        × ((if nat_lt last s.id && nat_le s.id 11 then highest_at s.id ss else None) ≡ Some high))
+        → (highest_at last ss ≡ Some high → IsOrdered last ss) → (highest_at s.id ss ≡ Some high → IsOrdered s.id ss) →
+        IsOrdered last (s ∷ ss)
     split (inl h) same next =
         let f = bind_some (bytes_at s.body) (λ name. highest_at last ss) high h.1 in
         let b = bytes_reader.back s.body f.0.0 f.0.1 f.1 in
@@ -97,28 +116,38 @@ highest_back (s ∷ ss) last high e =
 
 -- ---- parts
 
-part_forth : {A : Type 0} (Spelling : A → List ℕ → Type 0) (read : List ℕ → Option (A × List ℕ)) → Reader Spelling read → (empty x : A) (body : Option (List ℕ)) → MatchOption body (x ≡ empty) (λ b. Spelling x b) → part_of read empty body ≡ Some x
+part_forth : {A : Type 0} (Spelling : A → List ℕ → Type 0) (read : List ℕ → Option (A × List ℕ)) →
+    Reader Spelling read → (empty x : A) (body : Option (List ℕ)) → MatchOption body (x ≡ empty) (λ b. Spelling x b) →
+    part_of read empty body ≡ Some x
 part_forth {A} Spelling read r empty x None h = ap Some (sym h)
 part_forth Spelling read r empty x (Some body) h = whole_forth Spelling read r x body h
 
-part_back : {A : Type 0} (Spelling : A → List ℕ → Type 0) (read : List ℕ → Option (A × List ℕ)) → Reader Spelling read → (empty x : A) (body : Option (List ℕ)) → part_of read empty body ≡ Some x → MatchOption body (x ≡ empty) (λ b. Spelling x b)
+part_back : {A : Type 0} (Spelling : A → List ℕ → Type 0) (read : List ℕ → Option (A × List ℕ)) → Reader Spelling read →
+    (empty x : A) (body : Option (List ℕ)) → part_of read empty body ≡ Some x →
+    MatchOption body (x ≡ empty) (λ b. Spelling x b)
 part_back Spelling read r empty x None e = let p : empty ≡ x = cc in sym p
 part_back Spelling read r empty x (Some body) e = whole_back Spelling read r body x e
 
 -- how a part is read, both ways
-pub record PartReader {A : Type 0} (Spelling : A → List ℕ → Type 0) (read : List ℕ → Option (A × List ℕ)) (id : ℕ) (empty : A) : Type 0 where
-  pub gives : (x : A) (sections : List Section) → Part id Spelling empty x sections → part_at id read empty sections ≡ Some x
-  pub spelled : (x : A) (sections : List Section) → part_at id read empty sections ≡ Some x → Part id Spelling empty x sections
+pub record PartReader {A : Type 0} (Spelling : A → List ℕ → Type 0) (read : List ℕ → Option (A × List ℕ)) (id : ℕ)
+    (empty : A) : Type 0 where
+  pub gives : (x : A) (sections : List Section) → Part id Spelling empty x sections →
+      part_at id read empty sections ≡ Some x
+  pub spelled : (x : A) (sections : List Section) → part_at id read empty sections ≡ Some x →
+      Part id Spelling empty x sections
 
-part_reader : {A : Type 0} (Spelling : A → List ℕ → Type 0) (read : List ℕ → Option (A × List ℕ)) → Reader Spelling read → (id : ℕ) (empty : A) → PartReader Spelling read id empty
+part_reader : {A : Type 0} (Spelling : A → List ℕ → Type 0) (read : List ℕ → Option (A × List ℕ)) →
+    Reader Spelling read → (id : ℕ) (empty : A) → PartReader Spelling read id empty
 unfolding part_at
 part_reader Spelling read r id empty = record {
   gives = λ x sections h. part_forth Spelling read r empty x (body_of id sections) h;
   spelled = λ x sections e. part_back Spelling read r empty x (body_of id sections) e;
 }
 
-list_part : {A : Type 0} (Spelling : A → List ℕ → Type 0) (read : List ℕ → Option (A × List ℕ)) → Reader Spelling read → (id : ℕ) → PartReader (SpellsVector Spelling) (vector_at read) id []
-list_part Spelling read r id = part_reader (SpellsVector Spelling) (vector_at read) (vector_reader Spelling read r) id []
+list_part : {A : Type 0} (Spelling : A → List ℕ → Type 0) (read : List ℕ → Option (A × List ℕ)) → Reader Spelling read →
+    (id : ℕ) → PartReader (SpellsVector Spelling) (vector_at read) id []
+list_part Spelling read r id =
+    part_reader (SpellsVector Spelling) (vector_at read) (vector_reader Spelling read r) id []
 
 types_part : PartReader (SpellsVector SpellsFuncType) (vector_at func_type_at) 1 []
 types_part = list_part SpellsFuncType func_type_at func_type_reader 1
@@ -185,7 +214,19 @@ parts_back ss m e =
     let elements = bind_some (part_at 9 (vector_at element_at) [] ss) _ m start.2 in
     let codes = bind_some (part_at 10 (vector_at code_at) [] ss) _ m elements.2 in
     let segments = bind_some (part_at 11 (vector_at segment_at) [] ss) _ m codes.2 in
-    let whole : Module = record { types = types.0; imports = imports.0; functions = functions.0; tables = tables.0; memories = memories.0; globals = globals.0; exports = exports.0; start = start.0; elements = elements.0; codes = codes.0; segments = segments.0 } in
+    let whole : Module = record {
+      types = types.0;
+      imports = imports.0;
+      functions = functions.0;
+      tables = tables.0;
+      memories = memories.0;
+      globals = globals.0;
+      exports = exports.0;
+      start = start.0;
+      elements = elements.0;
+      codes = codes.0;
+      segments = segments.0;
+    } in
     let g = guard_some (length codes.0 == length functions.0) (Some whole) m segments.2 in
     let p : whole ≡ m = some_is whole m g.1 in
     let P : Module → Type 0 = λ x. HasParts x ss in
@@ -217,7 +258,9 @@ behind_back (x ∷ xs) (b ∷ bs) rest e =
 pub module_forth : (m : Module) (bytes : List ℕ) → Spells m bytes → module_at bytes ≡ Some m
 unfolding module_at behind
 module_forth m bytes h =
-    let ss : sections_at (length h.behind) h.behind ≡ Some h.sections = sections_forth h.sections (length h.behind) h.behind (items_long SpellsSection no_section h.sections h.behind h.spelled) h.spelled in
+    let ss : sections_at (length h.behind) h.behind ≡ Some h.sections =
+    sections_forth h.sections (length h.behind) h.behind
+    (items_long SpellsSection no_section h.sections h.behind h.spelled) h.spelled in
     let high = highest_forth h.sections 0 h.ordered in
     ap module_at h.whole ∙ rw (ss, high.1, parts_forth m h.sections h.parts) refl
 
@@ -241,29 +284,35 @@ one_module bytes a b h k = let e : Some a ≡ Some b = sym (module_forth a bytes
 
 -- ---- what the code answers
 
-pub found_of : (bytes : List ℕ) (result : Result Module DecodeFault) → Gives (λ m. m) result (module_at bytes) → IfOk result (λ m. Spells m bytes)
+pub found_of : (bytes : List ℕ) (result : Result Module DecodeFault) → Gives (λ m. m) result (module_at bytes) →
+    IfOk result (λ m. Spells m bytes)
 found_of bytes (Ok m) h = module_back bytes m h
 found_of bytes (Err fault) h = tt
 
-pub malformed_of : (bytes : List ℕ) (result : Result Module DecodeFault) → Gives (λ m. m) result (module_at bytes) → result ≡ Err Malformed → (m : Module) → Spells m bytes → ⊥
+pub malformed_of : (bytes : List ℕ) (result : Result Module DecodeFault) → Gives (λ m. m) result (module_at bytes) →
+    result ≡ Err Malformed → (m : Module) → Spells m bytes → ⊥
 malformed_of bytes (Err Malformed) h e m s = let p : Some m ≡ None = sym (module_forth m bytes s) ∙ h in absurd cc
 malformed_of bytes (Err NoMemory) h e m s = absurd cc
 malformed_of bytes (Ok m) h e n s = absurd cc
 
 -- the prefix that the code strips
-pub behind_stripped : (front bytes : List ℕ) → pointwise eqb (take (length front) bytes) front ≡ true → behind front bytes ≡ Some (drop (length front) bytes)
+pub behind_stripped : (front bytes : List ℕ) → pointwise eqb (take (length front) bytes) front ≡ true →
+    behind front bytes ≡ Some (drop (length front) bytes)
 unfolding behind
 behind_stripped [] bytes e = refl
 behind_stripped (x ∷ xs) [] e = absurd cc
 behind_stripped (x ∷ xs) (b ∷ bs) e =
     let t = both_true (eqb b x) (pointwise eqb (take (length xs) bs) xs) e in rw (t.0) (behind_stripped xs bs t.1)
 
-pub behind_missing : (front bytes : List ℕ) → pointwise eqb (take (length front) bytes) front ≡ false → behind front bytes ≡ None
+pub behind_missing : (front bytes : List ℕ) → pointwise eqb (take (length front) bytes) front ≡ false →
+    behind front bytes ≡ None
 unfolding behind
 behind_missing [] bytes e = absurd cc
 behind_missing (x ∷ xs) [] e = refl
 behind_missing (x ∷ xs) (b ∷ bs) e = split (eqb b x) refl e (behind_missing xs bs)
   where
-    split : (t : Bool) → eqb b x ≡ t → (t && pointwise eqb (take (length xs) bs) xs) ≡ false → (pointwise eqb (take (length xs) bs) xs ≡ false → behind xs bs ≡ None) → (if b == x then behind xs bs else None) ≡ None
+    split : (t : Bool) → eqb b x ≡ t → (t && pointwise eqb (take (length xs) bs) xs) ≡ false →
+        (pointwise eqb (take (length xs) bs) xs ≡ false → behind xs bs ≡ None) →
+        (if b == x then behind xs bs else None) ≡ None
     split true p f deeper = rw p (deeper f)
     split false p f deeper = rw p refl

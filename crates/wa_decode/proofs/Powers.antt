@@ -1,5 +1,7 @@
 -- The ranges of numbers in LEB128: each byte that goes on adds seven binary digits.
-use Rattle.std.proofs.Common.{◌≡◌, ℕ, ◌+◌, ◌-◌, ◌*◌, ◌^◌, ◌<◌, ◌≤◌, ℤ, pos, ◌+ℤ◌, ◌*ℤ◌, ◌≤ℤ◌, ◌<ℤ◌, w64, to_z, of_z, FitsSigned, List, [], ◌∷◌, length, take, drop, get_or, Some, true, false, nat_lt, arith, ap, refl, ◌∙◌}
+use Rattle.std.proofs.Common.{◌≡◌, ℕ, ◌+◌, ◌-◌, ◌*◌, ◌^◌, ◌<◌, ◌≤◌, ℤ, pos, ◌+ℤ◌, ◌*ℤ◌, ◌≤ℤ◌, ◌<ℤ◌, w64, to_z, of_z}
+use Rattle.std.proofs.Common.{FitsSigned, List, [], ◌∷◌, length, take, drop, get_or, Some, true, false, nat_lt, arith}
+use Rattle.std.proofs.Common.{ap, refl, ◌∙◌}
 use Rattle.std.proofs.Math.Nat.{pow-le-pow_right}
 use Rattle.std.proofs.lemmas.Int.{ints, to_z-of_z}
 use Rattle.std.proofs.Math.Seq.{take-length}
@@ -25,24 +27,31 @@ half_seven_more bits h =
 pub in_range : (p : ℕ) (z : ℤ) → pos 0 ≤ℤ (z +ℤ pos p) → z <ℤ pos p → p ≤ 2 ^ 63 → FitsSigned w64 z
 in_range p z low high most = omega (arith, ints)
 
-pub product_fits : (p : ℕ) (z : ℤ) → pos 0 ≤ℤ (z +ℤ pos p) → z <ℤ pos p → 128 * p ≤ 2 ^ 63 → FitsSigned w64 (pos 128 *ℤ to_z w64 (of_z w64 z))
+pub product_fits : (p : ℕ) (z : ℤ) → pos 0 ≤ℤ (z +ℤ pos p) → z <ℤ pos p → 128 * p ≤ 2 ^ 63 →
+    FitsSigned w64 (pos 128 *ℤ to_z w64 (of_z w64 z))
 product_fits p z low high most =
-    let f : FitsSigned w64 z = in_range p z low high (omega arith) in rw (to_z-of_z w64 z f) (in_range (128 * p) (pos 128 *ℤ z) (omega (arith, ints)) (omega (arith, ints)) most)
+    let f : FitsSigned w64 z = in_range p z low high (omega arith) in
+    rw (to_z-of_z w64 z f) (in_range (128 * p) (pos 128 *ℤ z) (omega (arith, ints)) (omega (arith, ints)) most)
 
 -- the number that the code computes, without its casts
-pub tidy : (p low : ℕ) (z first : ℤ) → pos 0 ≤ℤ (z +ℤ pos p) → z <ℤ pos p → 128 * p ≤ 2 ^ 63 → first ≡ pos low → low < 128
-    → to_z w64 (of_z w64 (to_z w64 (of_z w64 first) +ℤ to_z w64 (of_z w64 (pos 128 *ℤ to_z w64 (of_z w64 z))))) ≡ pos low +ℤ (pos 128 *ℤ z)
+pub tidy : (p low : ℕ) (z first : ℤ) → pos 0 ≤ℤ (z +ℤ pos p) → z <ℤ pos p → 128 * p ≤ 2 ^ 63 → first ≡ pos low →
+    low < 128
+    → to_z w64 (of_z w64 (to_z w64 (of_z w64 first) +ℤ to_z w64 (of_z w64 (pos 128 *ℤ to_z w64 (of_z w64 z)))))
+    ≡ pos low +ℤ (pos 128 *ℤ z)
 tidy p low z first least high most e l = omega (arith, ints, e)
 
-pub in_range_more : (p q low : ℕ) (z value : ℤ) → pos 0 ≤ℤ (z +ℤ pos p) → z <ℤ pos p → q ≡ 128 * p → low < 128 → value ≡ pos low +ℤ (pos 128 *ℤ z) → (pos 0 ≤ℤ (value +ℤ pos q)) × (value <ℤ pos q)
+pub in_range_more : (p q low : ℕ) (z value : ℤ) → pos 0 ≤ℤ (z +ℤ pos p) → z <ℤ pos p → q ≡ 128 * p → low < 128 →
+    value ≡ pos low +ℤ (pos 128 *ℤ z) → (pos 0 ≤ℤ (value +ℤ pos q)) × (value <ℤ pos q)
 in_range_more p q low z value least high e l v = (omega (arith, ints, v), omega (arith, ints, v))
 
 -- what stands behind the first byte
 pub behind_first : (b : ℕ) (bs : List ℕ) → take (length (b ∷ bs) - 1) (drop 1 (b ∷ bs)) ≡ bs
 behind_first b bs = let e : length (b ∷ bs) - 1 ≡ length bs = omega arith in rw e (take-length bs)
 
-pub signed_more : (bits : ℕ) (bytes : List ℕ) (high value : ℤ) (rest : List ℕ) → 1 ≤ length bytes → 128 ≤ get_or bytes 0 0 → 7 < bits
-    → signed_at (bits - 7) (take (length bytes - 1) (drop 1 bytes)) ≡ Some (high, rest) → value ≡ pos (get_or bytes 0 0 - 128) +ℤ (pos 128 *ℤ high) → signed_at bits bytes ≡ Some (value, rest)
+pub signed_more : (bits : ℕ) (bytes : List ℕ) (high value : ℤ) (rest : List ℕ) → 1 ≤ length bytes →
+    128 ≤ get_or bytes 0 0 → 7 < bits
+    → signed_at (bits - 7) (take (length bytes - 1) (drop 1 bytes)) ≡ Some (high, rest) →
+    value ≡ pos (get_or bytes 0 0 - 128) +ℤ (pos 128 *ℤ high) → signed_at bits bytes ≡ Some (value, rest)
 unfolding signed_at
 signed_more bits [] high value rest l h m e v = absurd (omega arith)
 signed_more bits (b ∷ bs) high value rest l h m e v =

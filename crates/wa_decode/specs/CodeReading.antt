@@ -1,9 +1,13 @@
 -- Reading instructions and expressions from left to right.
-use Rattle.std.specs.Prelude.{ℕ, zero, suc, Bool, true, false, ◌==◌, if◌then◌else◌, List, [], ◌∷◌, length, Option, Some, None}
+use Rattle.std.specs.Prelude.{ℕ, zero, suc, Bool, true, false, ◌==◌, if◌then◌else◌, List, [], ◌∷◌, length, Option, Some}
+use Rattle.std.specs.Prelude.{None}
 use Rattle.wa_ops.specs.Opcodes.{form_at}
 use Rattle.wa_ops.specs.Sequences.{Nesting, nesting, opens_block, opens_loop, opens_if, turns, closes, stands}
 use Rattle.wa_ops.specs.declared.op.Op.{Op}
-use Rattle.wa_ops.specs.declared.op.Op.TheVariants.{Unreachable, Nop, Block, Loop, If, Else, End, Br, BrIf, BrTable, Return, Call, CallIndirect, Drop, Select, LocalGet, LocalSet, LocalTee, GlobalGet, GlobalSet, Load, Store, MemorySize, MemoryGrow, I32Const, I64Const, Number, Float}
+use Rattle.wa_ops.specs.declared.op.Op.TheVariants.{Unreachable, Nop, Block, Loop, If, Else, End, Br, BrIf, BrTable}
+use Rattle.wa_ops.specs.declared.op.Op.TheVariants.{Return, Call, CallIndirect, Drop, Select, LocalGet, LocalSet}
+use Rattle.wa_ops.specs.declared.op.Op.TheVariants.{LocalTee, GlobalGet, GlobalSet, Load, Store, MemorySize, MemoryGrow}
+use Rattle.wa_ops.specs.declared.op.Op.TheVariants.{I32Const, I64Const, Number, Float}
 use Rattle.wa_ops.specs.declared.op.ValueType.{ValueType}
 use Rattle.wa_ops.specs.declared.op.ValueType.TheVariants.{I32, I64, F32, F64}
 use Rattle.wa_ops.specs.declared.opcode.Form.{Form}
@@ -113,7 +117,8 @@ abbrev pub opened : Op → List Bool → Option (List Bool)
 opened op around = opened_by (nesting op) around
 
 -- what is read behind an instruction, by what is then open
-abbrev pub rest_at : Op → List ℕ → (List Bool → Option (List Op × List ℕ)) → Option (List Bool) → Option (List Op × List ℕ)
+abbrev pub rest_at : Op → List ℕ → (List Bool → Option (List Op × List ℕ)) → Option (List Bool) →
+    Option (List Op × List ℕ)
 rest_at op bytes next None = None
 rest_at op bytes next (Some []) = Some (op ∷ [], bytes)
 rest_at op bytes next (Some (may ∷ around)) = next (may ∷ around) >>= λ r. Some (op ∷ r.0, r.1)

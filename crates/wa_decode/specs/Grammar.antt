@@ -1,9 +1,11 @@
 -- Numbers, vectors and names as bytes (WebAssembly Core 1.0, binary format, "Values" and "Conventions").
 -- Each definition is a relation between a value and the whole of the bytes that spell it.
-use Rattle.std.specs.Prelude.{ℕ, ℤ, pos, ◌≡◌, ◌+◌, ◌-◌, ◌*◌, ◌^◌, ◌<◌, ◌≤◌, ◌+ℤ◌, ◌-ℤ◌, ◌*ℤ◌, ◌⊎◌, List, [], ◌∷◌, ◌++◌, length}
+use Rattle.std.specs.Prelude.{ℕ, ℤ, pos, ◌≡◌, ◌+◌, ◌-◌, ◌*◌, ◌^◌, ◌<◌, ◌≤◌, ◌+ℤ◌, ◌-ℤ◌, ◌*ℤ◌, ◌⊎◌, List, [], ◌∷◌, ◌++◌}
+use Rattle.std.specs.Prelude.{length}
 
 -- An unsigned number of so many bits in LEB128, the lowest seven bits first ("Integers", uN).
--- The width falls by seven with each byte that goes on, so there are at most ceil(bits / 7) of them, and the last possible one has zeros in its unused bits.
+-- The width falls by seven with each byte that goes on, so there are at most ceil(bits / 7) of them, and the last
+-- possible one has zeros in its unused bits.
 abbrev pub IsUnsigned : ℕ → ℕ → List ℕ → Type 0
 IsUnsigned bits n [] = ⊥
 IsUnsigned bits n (b ∷ bs) =

@@ -1,9 +1,13 @@
--- Instructions and expressions as bytes (WebAssembly Core 1.0, binary format, "Instructions"; "Value Types" and "Result Types" under "Types").
+-- Instructions and expressions as bytes (WebAssembly Core 1.0, binary format, "Instructions"; "Value Types" and "Result
+-- Types" under "Types").
 use Rattle.std.specs.Prelude.{ℕ, ◌≡◌, ◌==◌, if◌then◌else◌, List, [], ◌∷◌, length, Option, Some, None}
 use Rattle.wa_ops.specs.Opcodes.{form_at}
 use Rattle.wa_ops.specs.Sequences.{IsNested}
 use Rattle.wa_ops.specs.declared.op.Op.{Op}
-use Rattle.wa_ops.specs.declared.op.Op.TheVariants.{Unreachable, Nop, Block, Loop, If, Else, End, Br, BrIf, BrTable, Return, Call, CallIndirect, Drop, Select, LocalGet, LocalSet, LocalTee, GlobalGet, GlobalSet, Load, Store, MemorySize, MemoryGrow, I32Const, I64Const, Number, Float}
+use Rattle.wa_ops.specs.declared.op.Op.TheVariants.{Unreachable, Nop, Block, Loop, If, Else, End, Br, BrIf, BrTable}
+use Rattle.wa_ops.specs.declared.op.Op.TheVariants.{Return, Call, CallIndirect, Drop, Select, LocalGet, LocalSet}
+use Rattle.wa_ops.specs.declared.op.Op.TheVariants.{LocalTee, GlobalGet, GlobalSet, Load, Store, MemorySize, MemoryGrow}
+use Rattle.wa_ops.specs.declared.op.Op.TheVariants.{I32Const, I64Const, Number, Float}
 use Rattle.wa_ops.specs.declared.op.ValueType.{ValueType}
 use Rattle.wa_ops.specs.declared.op.ValueType.TheVariants.{I32, I64, F32, F64}
 use Rattle.wa_ops.specs.declared.opcode.Form.{Form}
@@ -38,7 +42,8 @@ constant_size opcode = if opcode == 0x43 then 4 else 8
 
 -- a float instruction; what stands behind its opcode leaves no trace
 abbrev pub SpellsFloat : Form → ℕ → List ℕ → Type 0
-SpellsFloat forms.FloatAccess opcode bytes = After opcode (λ rest. (align : ℕ) × (offset : ℕ) × SpellsAccess align offset rest) bytes
+SpellsFloat forms.FloatAccess opcode bytes =
+    After opcode (λ rest. (align : ℕ) × (offset : ℕ) × SpellsAccess align offset rest) bytes
 SpellsFloat forms.FloatNumber opcode bytes = bytes ≡ opcode ∷ []
 SpellsFloat forms.FloatConstant opcode bytes = After opcode (λ rest. length rest ≡ constant_size opcode) bytes
 SpellsFloat _ opcode bytes = ⊥
@@ -53,7 +58,8 @@ SpellsOp Else bytes = bytes ≡ 0x05 ∷ []
 SpellsOp End bytes = bytes ≡ 0x0B ∷ []
 SpellsOp (Br label) bytes = Indexed 0x0C label bytes
 SpellsOp (BrIf label) bytes = Indexed 0x0D label bytes
-SpellsOp (BrTable labels last) bytes = After 0x0E (Then (SpellsVector (IsUnsigned 32) labels) (IsUnsigned 32 last)) bytes
+SpellsOp (BrTable labels last) bytes =
+    After 0x0E (Then (SpellsVector (IsUnsigned 32) labels) (IsUnsigned 32 last)) bytes
 SpellsOp Return bytes = bytes ≡ 0x0F ∷ []
 SpellsOp (Call index) bytes = Indexed 0x10 index bytes
 SpellsOp (CallIndirect index) bytes = After 0x11 (Then (IsUnsigned 32 index) (λ rest. rest ≡ 0x00 ∷ [])) bytes
@@ -64,8 +70,10 @@ SpellsOp (LocalSet index) bytes = Indexed 0x21 index bytes
 SpellsOp (LocalTee index) bytes = Indexed 0x22 index bytes
 SpellsOp (GlobalGet index) bytes = Indexed 0x23 index bytes
 SpellsOp (GlobalSet index) bytes = Indexed 0x24 index bytes
-SpellsOp (Load opcode align offset) bytes = (form_at opcode ≡ forms.Load) × After opcode (SpellsAccess align offset) bytes
-SpellsOp (Store opcode align offset) bytes = (form_at opcode ≡ forms.Store) × After opcode (SpellsAccess align offset) bytes
+SpellsOp (Load opcode align offset) bytes =
+    (form_at opcode ≡ forms.Load) × After opcode (SpellsAccess align offset) bytes
+SpellsOp (Store opcode align offset) bytes =
+    (form_at opcode ≡ forms.Store) × After opcode (SpellsAccess align offset) bytes
 SpellsOp MemorySize bytes = bytes ≡ 0x3F ∷ 0x00 ∷ []
 SpellsOp MemoryGrow bytes = bytes ≡ 0x40 ∷ 0x00 ∷ []
 SpellsOp (I32Const n) bytes = After 0x41 (IsSigned 32 n) bytes

@@ -1,5 +1,6 @@
 -- Reading modules from left to right.
-use Rattle.std.specs.Prelude.{ℕ, zero, suc, ◌≡◌, Bool, true, false, ◌==◌, ◌&&◌, nat_lt, nat_le, if◌then◌else◌, List, [], ◌∷◌, length, Option, Some, None}
+use Rattle.std.specs.Prelude.{ℕ, zero, suc, ◌≡◌, Bool, true, false, ◌==◌, ◌&&◌, nat_lt, nat_le, if◌then◌else◌, List, []}
+use Rattle.std.specs.Prelude.{◌∷◌, length, Option, Some, None}
 use Rattle.wa_ops.specs.declared.modules.Code.{Code}
 use Rattle.wa_ops.specs.declared.modules.Element.{Element}
 use Rattle.wa_ops.specs.declared.modules.FuncType.{FuncType}
@@ -15,7 +16,8 @@ use Rattle.wa_ops.specs.declared.op.Op.{Op}
 use Rattle.wa_ops.specs.declared.op.ValueType.{ValueType}
 use Rattle.wa_decode.specs.CodeReading.{value_type_at, expression_at}
 use Rattle.wa_decode.specs.Modules.{Section, Spells, body_of, header}
-use Rattle.wa_decode.specs.Reading.{◌>>=◌, made_at, both_at, tag_at, whole_at, unsigned_at, bytes_at, vector_at, sized_at}
+use Rattle.wa_decode.specs.Reading.{◌>>=◌, made_at, both_at, tag_at, whole_at, unsigned_at, bytes_at, vector_at}
+use Rattle.wa_decode.specs.Reading.{sized_at}
 
 -- ---- types
 
@@ -188,4 +190,6 @@ module_at bytes =
 
 -- that function finds a module exactly where the bytes spell it
 abbrev pub ModuleReads : Type 0
-ModuleReads = (m : Module) (bytes : List ℕ) → (Spells m bytes → module_at bytes ≡ Some m) × (module_at bytes ≡ Some m → Spells m bytes)
+ModuleReads =
+    (m : Module) (bytes : List ℕ) →
+    (Spells m bytes → module_at bytes ≡ Some m) × (module_at bytes ≡ Some m → Spells m bytes)

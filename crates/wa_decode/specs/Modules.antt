@@ -1,5 +1,6 @@
 -- Modules as bytes (WebAssembly Core 1.0, binary format, "Types" and "Modules").
-use Rattle.std.specs.Prelude.{ℕ, ◌≡◌, ◌<◌, ◌≤◌, ◌==◌, ◌⊎◌, Bool, true, false, if◌then◌else◌, List, [], ◌∷◌, ◌++◌, length, Option, Some, None, MatchOption}
+use Rattle.std.specs.Prelude.{ℕ, ◌≡◌, ◌<◌, ◌≤◌, ◌==◌, ◌⊎◌, Bool, true, false, if◌then◌else◌, List, [], ◌∷◌, ◌++◌}
+use Rattle.std.specs.Prelude.{length, Option, Some, None, MatchOption}
 use Rattle.wa_ops.specs.declared.modules.Code.{Code}
 use Rattle.wa_ops.specs.declared.modules.Element.{Element}
 use Rattle.wa_ops.specs.declared.modules.FuncType.{FuncType}
@@ -19,7 +20,8 @@ use Rattle.wa_decode.specs.Instructions.{SpellsValueType, SpellsExpression}
 
 -- 60, the types of the parameters, those of the results
 abbrev pub SpellsFuncType : FuncType → List ℕ → Type 0
-SpellsFuncType t bytes = After 0x60 (Then (SpellsVector SpellsValueType t.parameters) (SpellsVector SpellsValueType t.results)) bytes
+SpellsFuncType t bytes =
+    After 0x60 (Then (SpellsVector SpellsValueType t.parameters) (SpellsVector SpellsValueType t.results)) bytes
 
 -- 00 and the least size, or 01, the least and the greatest
 abbrev pub SpellsRange : ℕ → Option ℕ → List ℕ → Type 0
@@ -62,7 +64,8 @@ abbrev pub SpellsExport : ModuleExport → List ℕ → Type 0
 SpellsExport e bytes = Then (SpellsBytes e.name) (Then (SpellsKind e.kind) (IsUnsigned 32 e.index)) bytes
 
 abbrev pub SpellsElement : Element → List ℕ → Type 0
-SpellsElement e bytes = Then (IsUnsigned 32 e.table) (Then (SpellsExpression e.offset) (SpellsVector (IsUnsigned 32) e.functions)) bytes
+SpellsElement e bytes =
+    Then (IsUnsigned 32 e.table) (Then (SpellsExpression e.offset) (SpellsVector (IsUnsigned 32) e.functions)) bytes
 
 -- a run of locals of one type
 abbrev pub SpellsLocals : ℕ × ValueType → List ℕ → Type 0
@@ -93,7 +96,8 @@ SpellsSection s bytes = After s.id (SpellsBytes s.body) bytes
 abbrev pub IsCustom : List ℕ → Type 0
 IsCustom body = Then (λ front. (name : List ℕ) × SpellsBytes name front) (λ rest. Unit {0}) body
 
--- the sections behind one of this id: custom ones, of id 0, stand anywhere; the others come in rising order, each at most once
+-- the sections behind one of this id: custom ones, of id 0, stand anywhere; the others come in rising order, each at
+-- most once
 abbrev pub IsOrdered : ℕ → List Section → Type 0
 IsOrdered last [] = Unit {0}
 IsOrdered last (s ∷ ss) =

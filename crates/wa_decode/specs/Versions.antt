@@ -1,4 +1,5 @@
--- The modules that bytes spell in a version of the machine (this project's own): version 0 has no sign extension operators.
+-- The modules that bytes spell in a version of the machine (this project's own): version 0 has no sign extension
+-- operators.
 use Rattle.std.specs.Prelude.{ℕ, ◌≡◌, ◌||◌, List, Bool, false}
 use Rattle.std.specs.List.{list_any}
 use Rattle.wa_ops.specs.declared.modules.Module.{Module}

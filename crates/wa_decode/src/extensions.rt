@@ -1,6 +1,7 @@
 ghost use Rattle.std.specs.List.{list_any};
 ghost use Rattle.std.specs.Prelude.{◌≡◌, ◌||◌};
-ghost use Rattle.wa_decode.specs.Versions.{extends as extends_in, has_extensions as extensions_in, is_extension as extension_in};
+ghost use Rattle.wa_decode.specs.Versions.{extends as extends_in, has_extensions as extensions_in};
+ghost use Rattle.wa_decode.specs.Versions.{is_extension as extension_in};
 
 use wa_ops::{Code, Element, Module, ModuleGlobal, Op, Segment};
 
@@ -47,7 +48,8 @@ fn segments_extend(segments: &[Segment]) -> bool
         .any(|segment| extends(segment.offset.as_slice()))
 }
 
-/// Whether a body or another expression of the module has a sign extension operator, which version 0 of the machine lacks.
+/// Whether a body or another expression of the module has a sign extension operator, which version 0 of the machine
+/// lacks.
 pub fn has_extensions(module: &Module) -> bool
     ensures extensions { result ≡ extensions_in «module».now }
 {

@@ -1,5 +1,6 @@
 ghost use Rattle.std.specs.Prelude.{◌≡◌};
-ghost use Rattle.wa_decode.specs.ModuleReading.{element_at, export_at, global_at, import_at, item_at, kind_at, segment_at, start_at};
+ghost use Rattle.wa_decode.specs.ModuleReading.{element_at, export_at, global_at, import_at, item_at, kind_at};
+ghost use Rattle.wa_decode.specs.ModuleReading.{segment_at, start_at};
 ghost use Rattle.wa_decode.specs.Reading.{Gives};
 
 use crate::codes::expression;

@@ -1,5 +1,7 @@
 -- The bytes of a module's parts spell them.
-use Rattle.std.proofs.Common.{sym, subst, ◌≡◌, ℕ, zero, suc, ◌+◌, ◌/◌, ◌%◌, ◌<◌, ◌≤◌, ◌⊎◌, inl, inr, Bool, true, false, nat_lt, if◌then◌else◌, List, [], ◌∷◌, ◌++◌, length, replicate, flat_map, Option, Some, None, ℤ, refl, length-append, arith}
+use Rattle.std.proofs.Common.{sym, subst, ◌≡◌, ℕ, zero, suc, ◌+◌, ◌/◌, ◌%◌, ◌<◌, ◌≤◌, ◌⊎◌, inl, inr, Bool, true, false}
+use Rattle.std.proofs.Common.{nat_lt, if◌then◌else◌, List, [], ◌∷◌, ◌++◌, length, replicate, flat_map, Option, Some}
+use Rattle.std.proofs.Common.{None, ℤ, refl, length-append, arith}
 use Rattle.std.proofs.lemmas.List.{length-replicate}
 use Rattle.wa_ops.specs.Opcodes.{form_at}
 use Rattle.wa_ops.specs.Soundness.{Each}
@@ -12,17 +14,25 @@ use Rattle.wa_ops.specs.declared.modules.ImportItem.TheVariants.{Function, Table
 use Rattle.wa_ops.specs.declared.modules.Limits.{Limits}
 use Rattle.wa_ops.specs.declared.modules.Segment.{Segment}
 use Rattle.wa_ops.specs.declared.op.Op.{Op}
-use Rattle.wa_ops.specs.declared.op.Op.TheVariants.{Unreachable, Nop, Block, Loop, If, Else, End, Br, BrIf, BrTable, Return, Call, CallIndirect, Drop, Select, LocalGet, LocalSet, LocalTee, GlobalGet, GlobalSet, Load, Store, MemorySize, MemoryGrow, I32Const, I64Const, Number, Float}
+use Rattle.wa_ops.specs.declared.op.Op.TheVariants.{Unreachable, Nop, Block, Loop, If, Else, End, Br, BrIf, BrTable}
+use Rattle.wa_ops.specs.declared.op.Op.TheVariants.{Return, Call, CallIndirect, Drop, Select, LocalGet, LocalSet}
+use Rattle.wa_ops.specs.declared.op.Op.TheVariants.{LocalTee, GlobalGet, GlobalSet, Load, Store, MemorySize, MemoryGrow}
+use Rattle.wa_ops.specs.declared.op.Op.TheVariants.{I32Const, I64Const, Number, Float}
 use Rattle.wa_ops.specs.declared.op.ValueType.{ValueType}
 use Rattle.wa_ops.specs.declared.opcode.Form.{Form}
 use Rattle.wa_ops.specs.declared.opcode.Form.TheVariants as forms
 use Rattle.wa_decode.specs.Grammar.{IsUnsigned, IsSigned, SpellsAll, SpellsVector, SpellsBytes}
-use Rattle.wa_decode.specs.Instructions.{SpellsValueType, SpellsAccess, SpellsFloat, SpellsOp, SpellsExpression, constant_size, type_byte}
-use Rattle.wa_decode.specs.Modules.{SpellsFuncType, SpellsRange, SpellsLimits, SpellsTable, SpellsGlobalType, mutable_byte, SpellsItem, SpellsImport, SpellsGlobal, SpellsExport, SpellsElement, SpellsLocals, SpellsCode, SpellsSegment}
+use Rattle.wa_decode.specs.Instructions.{SpellsValueType, SpellsAccess, SpellsFloat, SpellsOp, SpellsExpression}
+use Rattle.wa_decode.specs.Instructions.{constant_size, type_byte}
+use Rattle.wa_decode.specs.Modules.{SpellsFuncType, SpellsRange, SpellsLimits, SpellsTable, SpellsGlobalType}
+use Rattle.wa_decode.specs.Modules.{mutable_byte, SpellsItem, SpellsImport, SpellsGlobal, SpellsExport, SpellsElement}
+use Rattle.wa_decode.specs.Modules.{SpellsLocals, SpellsCode, SpellsSegment}
 use Rattle.wa_decode.specs.Ranges.{InBits}
-use Rattle.wa_encode.specs.Fitting.{IsWord, IsWordIfThere, FitsOp, FitsCode, FitsLimits, FitsItem, FitsExport, FitsElement, FitsBody, FitsSegment}
+use Rattle.wa_encode.specs.Fitting.{IsWord, IsWordIfThere, FitsOp, FitsCode, FitsLimits, FitsItem, FitsExport}
+use Rattle.wa_encode.specs.Fitting.{FitsElement, FitsBody, FitsSegment}
 use Rattle.wa_encode.specs.Instructions.{float_operands, op, expression}
-use Rattle.wa_encode.specs.Modules.{value_type, func_type, range, limits, table, global_type, item, import, global, export, element, locals, body, code, segment}
+use Rattle.wa_encode.specs.Modules.{value_type, func_type, range, limits, table, global_type, item, import, global}
+use Rattle.wa_encode.specs.Modules.{export, element, locals, body, code, segment}
 use Rattle.wa_encode.specs.Numbers.{shortest, number, signed}
 use Rattle.wa_encode.specs.Vectors.{vector, text}
 use Rattle.wa_encode.proofs.Shortest.{unsigned_shortest, signed_shortest}
@@ -52,7 +62,8 @@ pub record Item {A : Type 0} (spell : A → List ℕ) (Spelling : A → List ℕ
   pub spelled : (x : A) → Fitting x → IsWord (length (spell x)) → Spelling x (spell x)
   pub some : (x : A) → 0 < length (spell x)
 
-pub all_spelled : {A : Type 0} (spell : A → List ℕ) (Spelling : A → List ℕ → Type 0) (Fitting : A → Type 0) → Item spell Spelling Fitting
+pub all_spelled : {A : Type 0} (spell : A → List ℕ) (Spelling : A → List ℕ → Type 0) (Fitting : A → Type 0) →
+    Item spell Spelling Fitting
     → (xs : List A) → Each Fitting xs → IsWord (length (flat_map spell xs)) → SpellsAll Spelling xs (flat_map spell xs)
 all_spelled spell Spelling Fitting i [] e l = refl
 all_spelled spell Spelling Fitting i (x ∷ xs) e l = (
@@ -64,19 +75,27 @@ all_spelled spell Spelling Fitting i (x ∷ xs) e l = (
 )
 
 -- there are no more items than bytes
-counted : {A : Type 0} (spell : A → List ℕ) → ((x : A) → 0 < length (spell x)) → (xs : List A) → length xs ≤ length (flat_map spell xs)
+counted : {A : Type 0} (spell : A → List ℕ) → ((x : A) → 0 < length (spell x)) → (xs : List A) →
+    length xs ≤ length (flat_map spell xs)
 counted spell some [] = omega arith
 counted spell some (x ∷ xs) = omega (arith, some x, length-append (spell x) (flat_map spell xs), counted spell some xs)
 
-pub vector_spelled : {A : Type 0} (spell : A → List ℕ) (Spelling : A → List ℕ → Type 0) (Fitting : A → Type 0) → Item spell Spelling Fitting
+pub vector_spelled : {A : Type 0} (spell : A → List ℕ) (Spelling : A → List ℕ → Type 0) (Fitting : A → Type 0) →
+    Item spell Spelling Fitting
     → (xs : List A) → Each Fitting xs → IsWord (length (vector spell xs)) → SpellsVector Spelling xs (vector spell xs)
 vector_spelled spell Spelling Fitting i xs e l =
     let items : IsWord (length (flat_map spell xs)) = back_word (number (length xs)) (flat_map spell xs) l in
-    let count : IsWord (length xs) = omega (arith, counted spell i.some xs) in
-    (number (length xs), flat_map spell xs, word_spelled (length xs) count, all_spelled spell Spelling Fitting i xs e items, refl)
+    let count : IsWord (length xs) = omega (arith, counted spell i.some xs) in (
+      number (length xs),
+      flat_map spell xs,
+      word_spelled (length xs) count,
+      all_spelled spell Spelling Fitting i xs e items,
+      refl,
+    )
 
 pub text_spelled : (bytes : List ℕ) → IsWord (length (text bytes)) → SpellsBytes bytes (text bytes)
-text_spelled bytes l = (number (length bytes), bytes, word_spelled (length bytes) (back_word (number (length bytes)) bytes l), refl, refl)
+text_spelled bytes l =
+    (number (length bytes), bytes, word_spelled (length bytes) (back_word (number (length bytes)) bytes l), refl, refl)
 
 -- ---- what fits always
 
@@ -108,22 +127,33 @@ text_some bytes = some_front (number (length bytes)) bytes (number_some 9 (lengt
 type_item : Item value_type SpellsValueType (λ x. Unit {0})
 type_item = record { spelled = λ x h l. refl; some = λ x. omega arith }
 
-types_spelled : (xs : List ValueType) → IsWord (length (vector value_type xs)) → SpellsVector SpellsValueType xs (vector value_type xs)
+types_spelled : (xs : List ValueType) → IsWord (length (vector value_type xs)) →
+    SpellsVector SpellsValueType xs (vector value_type xs)
 types_spelled xs l = vector_spelled value_type SpellsValueType (λ x. Unit {0}) type_item xs (each_fits xs) l
 
 func_type_spelled : (t : FuncType) → IsWord (length (func_type t)) → SpellsFuncType t (func_type t)
 func_type_spelled t l =
     let front = vector value_type t.parameters in
     let back = vector value_type t.results in
-    let both : IsWord (length (front ++ back)) = tail_word 0x60 (front ++ back) l in
-    (front ++ back, (front, back, types_spelled t.parameters (front_word front back both), types_spelled t.results (back_word front back both), refl), refl)
+    let both : IsWord (length (front ++ back)) = tail_word 0x60 (front ++ back) l in (
+      front ++ back,
+      (
+        front,
+        back,
+        types_spelled t.parameters (front_word front back both),
+        types_spelled t.results (back_word front back both),
+        refl,
+      ),
+      refl,
+    )
 
 pub func_type_item : Item func_type SpellsFuncType (λ t. Unit {0})
 func_type_item = record { spelled = λ t h l. func_type_spelled t l; some = λ t. omega arith }
 
 range_spelled : (min : ℕ) (max : Option ℕ) → IsWord min → IsWordIfThere max → SpellsRange min max (range min max)
 range_spelled min None h g = (number min, word_spelled min h, refl)
-range_spelled min (Some max) h g = (number min ++ number max, (number min, number max, word_spelled min h, word_spelled max g, refl), refl)
+range_spelled min (Some max) h g =
+    (number min ++ number max, (number min, number max, word_spelled min h, word_spelled max g, refl), refl)
 
 limits_spelled : (l : Limits) → FitsLimits l → SpellsLimits l (limits l)
 limits_spelled l h = range_spelled l.min l.max h.min h.max
@@ -157,7 +187,8 @@ float_spelled form opcode (inr (inr e)) =
     let zeros = replicate (constant_size opcode) 0 in
     subst (λ (f : Form). SpellsZeros opcode f) (sym e) (zeros, length-replicate (constant_size opcode) 0, refl)
 
-access_spelled : (align offset : ℕ) → IsWord align → IsWord offset → SpellsAccess align offset (number align ++ number offset)
+access_spelled : (align offset : ℕ) → IsWord align → IsWord offset →
+    SpellsAccess align offset (number align ++ number offset)
 access_spelled align offset h g = (number align, number offset, word_spelled align h, word_spelled offset g, refl)
 
 op_spelled : (x : Op) → FitsOp x → IsWord (length (op x)) → SpellsOp x (op x)
@@ -172,11 +203,21 @@ op_spelled (Br label) h l = (number label, word_spelled label h.numbers, refl)
 op_spelled (BrIf label) h l = (number label, word_spelled label h.numbers, refl)
 op_spelled (BrTable labels last) h l =
     let front = vector number labels in
-    let fits : IsWord (length front) = front_word front (number last) (tail_word 0x0E (front ++ number last) l) in
-    (front ++ number last, (front, number last, vector_spelled number (IsUnsigned 32) IsWord number_item labels h.numbers.0 fits, word_spelled last h.numbers.1, refl), refl)
+    let fits : IsWord (length front) = front_word front (number last) (tail_word 0x0E (front ++ number last) l) in (
+      front ++ number last,
+      (
+        front,
+        number last,
+        vector_spelled number (IsUnsigned 32) IsWord number_item labels h.numbers.0 fits,
+        word_spelled last h.numbers.1,
+        refl,
+      ),
+      refl,
+    )
 op_spelled Return h l = refl
 op_spelled (Call index) h l = (number index, word_spelled index h.numbers, refl)
-op_spelled (CallIndirect index) h l = (number index ++ 0 ∷ [], (number index, 0 ∷ [], word_spelled index h.numbers, refl, refl), refl)
+op_spelled (CallIndirect index) h l =
+    (number index ++ 0 ∷ [], (number index, 0 ∷ [], word_spelled index h.numbers, refl, refl), refl)
 op_spelled Drop h l = refl
 op_spelled Select h l = refl
 op_spelled (LocalGet index) h l = (number index, word_spelled index h.numbers, refl)
@@ -184,8 +225,10 @@ op_spelled (LocalSet index) h l = (number index, word_spelled index h.numbers, r
 op_spelled (LocalTee index) h l = (number index, word_spelled index h.numbers, refl)
 op_spelled (GlobalGet index) h l = (number index, word_spelled index h.numbers, refl)
 op_spelled (GlobalSet index) h l = (number index, word_spelled index h.numbers, refl)
-op_spelled (Load opcode align offset) h l = (h.sound, (number align ++ number offset, access_spelled align offset h.numbers.0 h.numbers.1, refl))
-op_spelled (Store opcode align offset) h l = (h.sound, (number align ++ number offset, access_spelled align offset h.numbers.0 h.numbers.1, refl))
+op_spelled (Load opcode align offset) h l =
+    (h.sound, (number align ++ number offset, access_spelled align offset h.numbers.0 h.numbers.1, refl))
+op_spelled (Store opcode align offset) h l =
+    (h.sound, (number align ++ number offset, access_spelled align offset h.numbers.0 h.numbers.1, refl))
 op_spelled MemorySize h l = refl
 op_spelled MemoryGrow h l = refl
 op_spelled (I32Const n) h l = (signed n, signed_spelled 32 n (omega arith) (omega arith) h.numbers, refl)
@@ -226,7 +269,8 @@ op_some (Float opcode) = omega arith
 op_item : Item op SpellsOp FitsOp
 op_item = record { spelled = op_spelled; some = op_some }
 
-expression_spelled : (ops : List Op) → FitsCode ops → IsWord (length (expression ops)) → SpellsExpression ops (expression ops)
+expression_spelled : (ops : List Op) → FitsCode ops → IsWord (length (expression ops)) →
+    SpellsExpression ops (expression ops)
 expression_spelled ops h l = (h.nested, all_spelled op SpellsOp FitsOp op_item ops h.each l)
 
 -- ---- what the sections have in them
@@ -245,11 +289,19 @@ import_spelled x h l =
     let from = text x.module in
     let name = text x.name in
     let kind = item x.item in
-    let behind : IsWord (length (name ++ kind)) = back_word from (name ++ kind) l in
-    (from, name ++ kind, text_spelled x.module (front_word from (name ++ kind) l), (name, kind, text_spelled x.name (front_word name kind behind), item_spelled x.item h, refl), refl)
+    let behind : IsWord (length (name ++ kind)) = back_word from (name ++ kind) l in (
+      from,
+      name ++ kind,
+      text_spelled x.module (front_word from (name ++ kind) l),
+      (name, kind, text_spelled x.name (front_word name kind behind), item_spelled x.item h, refl),
+      refl,
+    )
 
 pub import_item : Item import SpellsImport (λ x. FitsItem x.item)
-import_item = record { spelled = import_spelled; some = λ x. some_front (text x.module) (text x.name ++ item x.item) (text_some x.module) }
+import_item = record {
+  spelled = import_spelled;
+  some = λ x. some_front (text x.module) (text x.name ++ item x.item) (text_some x.module);
+}
 
 pub global_item : Item global SpellsGlobal (λ x. FitsCode x.init)
 global_item = record {
@@ -281,11 +333,16 @@ element_spelled x h l =
     let functions = vector number x.functions in
     let behind : IsWord (length (offset ++ functions)) = back_word (number x.table) (offset ++ functions) l in
     let placed = expression_spelled x.offset h.offset (front_word offset functions behind) in
-    let listed = vector_spelled number (IsUnsigned 32) IsWord number_item x.functions h.functions (back_word offset functions behind) in
+    let listed =
+    vector_spelled number (IsUnsigned 32) IsWord number_item x.functions h.functions
+    (back_word offset functions behind) in
     (number x.table, offset ++ functions, word_spelled x.table h.table, (offset, functions, placed, listed, refl), refl)
 
 pub element_item : Item element SpellsElement FitsElement
-element_item = record { spelled = element_spelled; some = λ x. some_front (number x.table) (expression x.offset ++ vector number x.functions) (number_some 9 x.table) }
+element_item = record {
+  spelled = element_spelled;
+  some = λ x. some_front (number x.table) (expression x.offset ++ vector number x.functions) (number_some 9 x.table);
+}
 
 locals_item : Item locals SpellsLocals (λ run. IsWord run.0)
 locals_item = record {
@@ -298,8 +355,13 @@ code_spelled x h l =
     let runs = vector locals x.locals in
     let ops = expression x.ops in
     let whole : IsWord (length (runs ++ ops)) = back_word (number (length (body x))) (body x) l in
-    let spelled_runs = vector_spelled locals SpellsLocals (λ run. IsWord run.0) locals_item x.locals h.locals (front_word runs ops whole) in
-    (body x, (runs, ops, spelled_runs, expression_spelled x.ops h.ops (back_word runs ops whole), refl), text_spelled (body x) l)
+    let spelled_runs =
+    vector_spelled locals SpellsLocals (λ run. IsWord run.0) locals_item x.locals h.locals
+    (front_word runs ops whole) in (
+      body x,
+      (runs, ops, spelled_runs, expression_spelled x.ops h.ops (back_word runs ops whole), refl),
+      text_spelled (body x) l,
+    )
 
 pub code_item : Item code SpellsCode FitsBody
 code_item = record { spelled = code_spelled; some = λ x. text_some (body x) }
@@ -308,8 +370,22 @@ segment_spelled : (x : Segment) → FitsSegment x → IsWord (length (segment x)
 segment_spelled x h l =
     let offset = expression x.offset in
     let bytes = text x.bytes in
-    let behind : IsWord (length (offset ++ bytes)) = back_word (number x.memory) (offset ++ bytes) l in
-    (number x.memory, offset ++ bytes, word_spelled x.memory h.memory, (offset, bytes, expression_spelled x.offset h.offset (front_word offset bytes behind), text_spelled x.bytes (back_word offset bytes behind), refl), refl)
+    let behind : IsWord (length (offset ++ bytes)) = back_word (number x.memory) (offset ++ bytes) l in (
+      number x.memory,
+      offset ++ bytes,
+      word_spelled x.memory h.memory,
+      (
+        offset,
+        bytes,
+        expression_spelled x.offset h.offset (front_word offset bytes behind),
+        text_spelled x.bytes (back_word offset bytes behind),
+        refl,
+      ),
+      refl,
+    )
 
 pub segment_item : Item segment SpellsSegment FitsSegment
-segment_item = record { spelled = segment_spelled; some = λ x. some_front (number x.memory) (expression x.offset ++ text x.bytes) (number_some 9 x.memory) }
+segment_item = record {
+  spelled = segment_spelled;
+  some = λ x. some_front (number x.memory) (expression x.offset ++ text x.bytes) (number_some 9 x.memory);
+}

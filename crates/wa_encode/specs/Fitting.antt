@@ -11,7 +11,8 @@ use Rattle.wa_ops.specs.declared.modules.Module.{Module}
 use Rattle.wa_ops.specs.declared.modules.ModuleExport.{ModuleExport}
 use Rattle.wa_ops.specs.declared.modules.Segment.{Segment}
 use Rattle.wa_ops.specs.declared.op.Op.{Op}
-use Rattle.wa_ops.specs.declared.op.Op.TheVariants.{Br, BrIf, BrTable, Call, CallIndirect, LocalGet, LocalSet, LocalTee, GlobalGet, GlobalSet, Load, Store, I32Const, I64Const}
+use Rattle.wa_ops.specs.declared.op.Op.TheVariants.{Br, BrIf, BrTable, Call, CallIndirect, LocalGet, LocalSet, LocalTee}
+use Rattle.wa_ops.specs.declared.op.Op.TheVariants.{GlobalGet, GlobalSet, Load, Store, I32Const, I64Const}
 use Rattle.wa_decode.specs.Modules.{Spells}
 use Rattle.wa_decode.specs.Ranges.{InBits}
 use Rattle.wa_encode.specs.Modules.{encoded}

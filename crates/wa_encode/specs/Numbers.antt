@@ -1,6 +1,7 @@
 -- Numbers in LEB128 in as few bytes as can be (WebAssembly Core 1.0, binary format, "Integers"; that none is longer is
 -- this project's own).
-use Rattle.std.specs.Prelude.{ℕ, zero, suc, ℤ, pos, negsuc, ◌≡◌, ◌+◌, ◌/◌, ◌%◌, ◌^◌, ◌<◌, ◌≤◌, ◌⊎◌, ◌&&◌, Bool, nat_lt, int_le, int_lt, unsigned_abs, if◌then◌else◌, List, [], ◌∷◌, length}
+use Rattle.std.specs.Prelude.{ℕ, zero, suc, ℤ, pos, negsuc, ◌≡◌, ◌+◌, ◌/◌, ◌%◌, ◌^◌, ◌<◌, ◌≤◌, ◌⊎◌, ◌&&◌, Bool, nat_lt}
+use Rattle.std.specs.Prelude.{int_le, int_lt, unsigned_abs, if◌then◌else◌, List, [], ◌∷◌, length}
 use Rattle.std.specs.Int.{int_div_euclid, int_rem_euclid}
 use Rattle.wa_decode.specs.Grammar.{IsUnsigned, IsSigned}
 use Rattle.wa_decode.specs.Ranges.{InBits, IsBytes}

@@ -1,5 +1,6 @@
 -- What the rules say of an exported function, and of the rows of calls.
-use Rattle.std.proofs.Common.{ℕ, ◌≡◌, ◌≤◌, List, [], ◌∷◌, ◌∙◌, Option, None, Some, IsTrue, true, inl, inr, refl, sym, ap, subst, length}
+use Rattle.std.proofs.Common.{ℕ, ◌≡◌, ◌≤◌, List, [], ◌∷◌, ◌∙◌, Option, None, Some, IsTrue, true, inl, inr, refl, sym}
+use Rattle.std.proofs.Common.{ap, subst, length}
 use Rattle.std.specs.Prelude.{is_some}
 use Rattle.hk_bound.specs.Bounds.{bound_of, export_bound}
 use Rattle.hk_bound.specs.Checks.{Held, Holds, entry_in}
@@ -24,38 +25,47 @@ use Rattle.wa_ops.specs.declared.modules.Import.{Import}
 use Rattle.wa_ops.specs.declared.modules.Module.{Module}
 use Rattle.wa_run.specs.Calls.{AreRows}
 
-pub entry_typed : (m : Module) (which : Export) (func : ℕ) → IsRuled m → entry_of (length (calls_of m.imports)) (named which) m.exports ≡ Some func → IsEntryType m func
+pub entry_typed : (m : Module) (which : Export) (func : ℕ) → IsRuled m →
+    entry_of (length (calls_of m.imports)) (named which) m.exports ≡ Some func → IsEntryType m func
 entry_typed m «export».Hook func kept e = entry_types m func kept (inl e)
 entry_typed m «export».Cbak func kept e = entry_types m func kept (inr e)
 
 -- what was worked out for an export is so
-pub entry_held : (version : ℕ) (code : List ℕ) (held : Held) (which : Export) (entry : Entry) → Holds version code held → entry_in which held ≡ Some entry → IsEntry held.wasm (named which) entry
-entry_held version code held «export».Hook entry h e = let same : held.hook_entry ≡ entry = cc e in subst (IsEntry held.wasm (named «export».Hook)) same h.hook_entry
+pub entry_held : (version : ℕ) (code : List ℕ) (held : Held) (which : Export) (entry : Entry) →
+    Holds version code held → entry_in which held ≡ Some entry → IsEntry held.wasm (named which) entry
+entry_held version code held «export».Hook entry h e =
+    let same : held.hook_entry ≡ entry = cc e in subst (IsEntry held.wasm (named «export».Hook)) same h.hook_entry
 entry_held version code held «export».Cbak entry h e = subst (AreEntry held.wasm is_cbak) e h.cbak_entry
 
 -- an export that has a bound has an entry
-pub entry_there : (version : ℕ) (code : List ℕ) (held : Held) (which : Export) (n : ℕ) → Holds version code held → export_bound version (named which) held.wasm ≡ Some n → IsTrue (is_some (entry_in which held))
+pub entry_there : (version : ℕ) (code : List ℕ) (held : Held) (which : Export) (n : ℕ) → Holds version code held →
+    export_bound version (named which) held.wasm ≡ Some n → IsTrue (is_some (entry_in which held))
 entry_there version code held «export».Hook n h e = refl
 entry_there version code held «export».Cbak n h e = at held.cbak_entry refl h.cbak_entry
   where
     at : (o : Option Entry) → held.cbak_entry ≡ o → AreEntry held.wasm is_cbak o → is_some held.cbak_entry ≡ true
     at None s none =
-        let nothing : export_bound version is_cbak held.wasm ≡ None = ap (λ found. and_then found (bound_of version held.wasm)) none in
+        let nothing : export_bound version is_cbak held.wasm ≡ None =
+        ap (λ found. and_then found (bound_of version held.wasm)) none in
         absurd (let p : None ≡ Some n = sym nothing ∙ e in cc)
     at (Some entry) s kept = ap (λ (x : Option Entry). is_some x) s
 
 -- ---- rows of calls
 
-pub calls_are : (m : Module) (rows : List CallNo) → IsRuled m → found_rows rows ≡ rows_named m.imports → calls_of m.imports ≡ callees rows
+pub calls_are : (m : Module) (rows : List CallNo) → IsRuled m → found_rows rows ≡ rows_named m.imports →
+    calls_of m.imports ≡ callees rows
 calls_are m rows kept named_so = calls_of_rows m.types m.imports rows (rules_by_name m kept).imports named_so
 
 pub are_rows : (rows : List CallNo) (imports : List Import) → found_rows rows ≡ rows_named imports → AreRows rows
 are_rows [] imports e = tt
 are_rows (row ∷ rows) [] e = absurd (cc e)
-are_rows (row ∷ rows) (import ∷ imports) e = (row_below import.name row.0 (sym (heads e)), are_rows rows imports (tails e))
+are_rows (row ∷ rows) (import ∷ imports) e =
+    (row_below import.name row.0 (sym (heads e)), are_rows rows imports (tails e))
   where
-    heads : Some row.0 ∷ found_rows rows ≡ row_named import.name ∷ rows_named imports → Some row.0 ≡ row_named import.name
+    heads : Some row.0 ∷ found_rows rows ≡ row_named import.name ∷ rows_named imports →
+        Some row.0 ≡ row_named import.name
     heads h = cc h
 
-    tails : Some row.0 ∷ found_rows rows ≡ row_named import.name ∷ rows_named imports → found_rows rows ≡ rows_named imports
+    tails : Some row.0 ∷ found_rows rows ≡ row_named import.name ∷ rows_named imports →
+        found_rows rows ≡ rows_named imports
     tails h = cc h

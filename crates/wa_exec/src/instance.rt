@@ -70,8 +70,10 @@ impl Instance {
     pub fn run<H: Host>(self, checked: &Checked, host: &mut H) -> Result<Ended, NoMemory>
         requires made { (which : Export) × (argument : ℕ) × IsMade checked.now which argument self }
         ensures ends { IfOk result (λ ended. (which : Export) (argument : ℕ) → IsMade checked.now which argument self →
-            IsRun (meaning_of H.answer H.memory_after H.state_after) checked.now.wasm (named which) argument host.old ended.outcome ended.count host.new) }
-        ensures count { IfOk result (λ ended. (which : Export) (argument n : ℕ) → IsMade checked.now which argument self →
+            IsRun (meaning_of H.answer H.memory_after H.state_after) checked.now.wasm (named which) argument host.old
+            ended.outcome ended.count host.new) }
+        ensures count { IfOk result
+            (λ ended. (which : Export) (argument n : ℕ) → IsMade checked.now which argument self →
             export_bound checked.now.version (named which) checked.now.wasm ≡ Some n → ended.count ≤ n) }
         ensures within { (which : Export) → RunsWithin H checked.now.wasm (named which) }
         ensures told { H.may_want host.new ≡ H.may_want host.old }

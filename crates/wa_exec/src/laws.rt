@@ -23,12 +23,14 @@ pub fn code_run_is<S>()
     within_the_bound::<S>();
 }
 
-/// The law that what the function `code_run` gives is a run of the module that the bytes spell, over a host of any state.
+/// The law that what the function `code_run` gives is a run of the module that the bytes spell, over a host of any
+/// state.
 pub fn code_run_ends<S>()
     ensures law { CodeRunEnds S }
 {}
 
-/// The law that for accepted code the function `code_run` gives an ending within the export's bound, over a host of any state.
+/// The law that for accepted code the function `code_run` gives an ending within the export's bound, over a host of any
+/// state.
 pub fn codes_run<S>()
     ensures law { CodesRun S }
 {

@@ -1,5 +1,6 @@
 -- What is left of the turns of loops, and how a passing guard pays.
-use Rattle.std.proofs.Common.{◌≡◌, ◌+◌, ◌-◌, ◌*◌, ◌<◌, ◌≤◌, ◌==◌, ◌⊎◌, inl, inr, ◌++◌, ℕ, suc, List, [], ◌∷◌, Bool, true, false, if◌then◌else◌, sym, ap, subst, refl, arith}
+use Rattle.std.proofs.Common.{◌≡◌, ◌+◌, ◌-◌, ◌*◌, ◌<◌, ◌≤◌, ◌==◌, ◌⊎◌, inl, inr, ◌++◌, ℕ, suc, List, [], ◌∷◌, Bool}
+use Rattle.std.proofs.Common.{true, false, if◌then◌else◌, sym, ap, subst, refl, arith}
 use Rattle.std.proofs.Math.Nat.{mul-le-mul_right}
 use Rattle.std.proofs.lemmas.Bool.Decides.{nat_tests}
 use Rattle.wa_ops.specs.Bound.{LoopCost, last_pass, turns as all_turns}
@@ -46,7 +47,8 @@ counted_less id other limit guards = at (other == id)
 
 pub left_less : (xs : List LoopCost) (id : ℕ) (guards : ℕ → ℕ) → left xs (counted id guards) ≤ left xs guards
 left_less [] id guards = omega arith
-left_less (x ∷ xs) id guards = omega (arith, mul-le-mul_right x.cost (counted_less id x.id x.limit guards), left_less xs id guards)
+left_less (x ∷ xs) id guards =
+    omega (arith, mul-le-mul_right x.cost (counted_less id x.id x.limit guards), left_less xs id guards)
 
 pub pays : (limit cost passed : ℕ) → passed < limit → (limit - suc passed) * cost + cost ≤ (limit - passed) * cost
 pays limit cost passed h =
@@ -54,12 +56,19 @@ pays limit cost passed h =
     omega (arith, ap (λ n. n * cost) e)
 
 -- a pass of a loop's guard pays for a turn of the loop
-pub left_pays : (xs : List LoopCost) (x : LoopCost) (guards : ℕ → ℕ) → Among xs x → guards x.id < x.limit → left xs (counted x.id guards) + x.cost ≤ left xs guards
+pub left_pays : (xs : List LoopCost) (x : LoopCost) (guards : ℕ → ℕ) → Among xs x → guards x.id < x.limit →
+    left xs (counted x.id guards) + x.cost ≤ left xs guards
 left_pays [] x guards a h = absurd a
 left_pays (y ∷ ys) x guards (inl e) h =
     subst (λ z. left (z ∷ ys) (counted x.id guards) + x.cost ≤ left (z ∷ ys) guards) (sym e)
-    (omega (arith, pays x.limit x.cost (guards x.id) h, ap (λ n. (x.limit - n) * x.cost) (counted_same x.id guards), left_less ys x.id guards))
-left_pays (y ∷ ys) x guards (inr a) h = omega (arith, mul-le-mul_right y.cost (counted_less x.id y.id y.limit guards), left_pays ys x guards a h)
+    (omega (
+      arith,
+      pays x.limit x.cost (guards x.id) h,
+      ap (λ n. (x.limit - n) * x.cost) (counted_same x.id guards),
+      left_less ys x.id guards,
+    ))
+left_pays (y ∷ ys) x guards (inr a) h =
+    omega (arith, mul-le-mul_right y.cost (counted_less x.id y.id y.limit guards), left_pays ys x guards a h)
 
 pub last_pass_is : (xs : List LoopCost) (x : LoopCost) → Among xs x → last_pass xs ≡ 3
 last_pass_is [] x a = absurd a
@@ -67,4 +76,5 @@ last_pass_is (y ∷ ys) x a = refl
 
 pub left_first : (xs : List LoopCost) → left xs (λ id. 0) ≡ all_turns xs
 left_first [] = refl
-left_first (x ∷ xs) = let e : x.limit - 0 ≡ x.limit = omega arith in omega (arith, ap (λ n. n * x.cost) e, left_first xs)
+left_first (x ∷ xs) =
+    let e : x.limit - 0 ≡ x.limit = omega arith in omega (arith, ap (λ n. n * x.cost) e, left_first xs)

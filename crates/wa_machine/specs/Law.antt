@@ -24,9 +24,11 @@ pub record EndsWithin {S : Type 0} (world : World S) (most : ℕ) (c : Configura
   pub within : steps ≤ most
   pub ends : Ends world steps c outcome last
 
--- for every host: each run of typed and guarded code ends within the bound of version 1, and so within that of version 0, which is no less
+-- for every host: each run of typed and guarded code ends within the bound of version 1, and so within that of version
+-- 0, which is no less
 abbrev pub WithinBound : Type 0 → Type 0
 WithinBound S = (world : World S) (code : Sequence) (locals globals : List Value) (memory : List ℕ) (host : S) →
-    types_of locals ≡ world.context.locals → types_of globals ≡ kinds_of world.context.globals → world.context.result ≡ Some I64 →
+    types_of locals ≡ world.context.locals → types_of globals ≡ kinds_of world.context.globals →
+    world.context.result ≡ Some I64 →
     IsTyped world.context code → IsGuarded world.context.calls code →
     EndsWithin world (bound_at 1 code) (start world code locals globals memory host)

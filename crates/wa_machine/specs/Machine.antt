@@ -1,6 +1,9 @@
--- The machine (WebAssembly Core 1.0, "Execution", "Instructions"), by cases on the first node of the innermost open region.
+-- The machine (WebAssembly Core 1.0, "Execution", "Instructions"), by cases on the first node of the innermost open
+-- region.
 -- The counting of turns, the guards, and the calls `_g`, `accept` and `rollback` are this project's own.
-use Rattle.std.specs.Prelude.{ℕ, zero, suc, ℤ, ◌≡◌, ◌+◌, ◌-◌, ◌*◌, ◌/◌, ◌^◌, ◌||◌, List, [], ◌∷◌, ◌++◌, Option, Some, None, Result, Ok, Err, if◌then◌else◌, ◌==◌, nat_lt, length, take, drop, map, reverse, slice_get, slice_set}
+use Rattle.std.specs.Prelude.{ℕ, zero, suc, ℤ, ◌≡◌, ◌+◌, ◌-◌, ◌*◌, ◌/◌, ◌^◌, ◌||◌, List, [], ◌∷◌, ◌++◌, Option, Some}
+use Rattle.std.specs.Prelude.{None, Result, Ok, Err, if◌then◌else◌, ◌==◌, nat_lt, length, take, drop, map, reverse}
+use Rattle.std.specs.Prelude.{slice_get, slice_set}
 use Rattle.std.specs.Int.{cast_signed, cast_unsigned, w32, w64}
 use Rattle.hk_base.specs.declared.outcome.Outcome.{Outcome}
 use Rattle.hk_base.specs.declared.outcome.Outcome.TheVariants.{Accepted, RolledBack, Returned, Trapped, GuardViolated}
@@ -13,7 +16,8 @@ use Rattle.wa_ops.specs.declared.op.Op.{Op}
 use Rattle.wa_ops.specs.declared.op.Op.TheVariants as op
 use Rattle.wa_ops.specs.declared.op.ValueType.{ValueType}
 use Rattle.wa_ops.specs.declared.op.ValueType.TheVariants.{I32, I64}
-use Rattle.wa_ops.specs.Accesses.{load_type, load_width, is_signed_load, store_type, store_width, number_takes, number_gives}
+use Rattle.wa_ops.specs.Accesses.{load_type, load_width, is_signed_load, store_type, store_width, number_takes}
+use Rattle.wa_ops.specs.Accesses.{number_gives}
 use Rattle.wa_ops.specs.Callees.{Callee, guard, accept, rollback, host_call, takes}
 use Rattle.wa_ops.specs.Opcodes.{among, is_unary32, is_unary64}
 use Rattle.wa_ops.specs.Sequences.{Sequence, done, plain, block, loop, if_then, if_else}
@@ -49,7 +53,8 @@ pub record Region : Type 0 where
   pub operands : List Value
   pub rest : Sequence
 
--- The open regions, the innermost first; the variables and the memory; how often each guard's id was passed; the host's state;
+-- The open regions, the innermost first; the variables and the memory; how often each guard's id was passed; the host's
+-- state;
 -- and how many turns were made.
 pub record Configuration (S : Type 0) : Type 0 where
   pub regions : List Region
@@ -118,8 +123,10 @@ third (value ∷ values) = second values
 abbrev pub text_of : List ℕ → ℕ → ℕ → List ℕ
 text_of memory from size = take 256 (take size (drop from memory))
 
--- `accept(from, size, code)` and `rollback(from, size, code)`: with a text outside the memory the answer is -1, and the run goes on
-abbrev pub end_with : {S : Type 0} → (ℤ → List ℕ → Outcome) → List Value → Region → List Region → List Value → Configuration S → Step S
+-- `accept(from, size, code)` and `rollback(from, size, code)`: with a text outside the memory the answer is -1, and the
+-- run goes on
+abbrev pub end_with : {S : Type 0} → (ℤ → List ℕ → Outcome) → List Value → Region → List Region → List Value →
+    Configuration S → Step S
 end_with outcome arguments region around operands c =
     if fits c.memory (third arguments) (second arguments)
     then ended (outcome (cast_signed w64 (first arguments)) (text_of c.memory (third arguments) (second arguments))) c
@@ -131,16 +138,19 @@ counted id guards other = if other == id then suc (guards other) else guards oth
 -- `_g(id, limit)`: one pass more of the id, which ends the run above the limit
 abbrev pub pass : {S : Type 0} → ℕ → ℕ → Region → List Region → List Value → Configuration S → Step S
 pass id limit region around operands c =
-    if nat_lt (c.guards id) limit then onward region around (word32 1 ∷ operands) (record c { guards = counted id c.guards })
+    if nat_lt (c.guards id) limit
+    then onward region around (word32 1 ∷ operands) (record c { guards = counted id c.guards })
     else ended (GuardViolated id limit) (record c { guards = counted id c.guards })
 
 -- a call with these arguments, the last first
-abbrev pub call : {S : Type 0} → World S → Callee → List Value → Region → List Region → List Value → Configuration S → Step S
+abbrev pub call : {S : Type 0} → World S → Callee → List Value → Region → List Region → List Value → Configuration S →
+    Step S
 call world guard arguments region around operands c = pass (second arguments) (first arguments) region around operands c
 call world accept arguments region around operands c = end_with Accepted arguments region around operands c
 call world rollback arguments region around operands c = end_with RolledBack arguments region around operands c
 call world (host_call row parameters) arguments region around operands c =
-    onward region around (word64 (cast_unsigned w64 (world.host.answer c.host row (map word_of (reverse arguments)) c.memory)) ∷ operands)
+    onward region around
+    (word64 (cast_unsigned w64 (world.host.answer c.host row (map word_of (reverse arguments)) c.memory)) ∷ operands)
     (record c {
       memory = world.host.memory_after c.host row (map word_of (reverse arguments)) c.memory;
       host = world.host.state_after c.host row (map word_of (reverse arguments)) c.memory;
@@ -158,7 +168,8 @@ numeric n operands =
     if n == 0x45 || n == 0x50 then Ok (zero_test (first operands)) else
     Ok (conversion (conversion_at n) (first operands))
 
-abbrev pub finish : {S : Type 0} → Result ℕ Trap → ValueType → Region → List Region → List Value → Configuration S → Step S
+abbrev pub finish : {S : Type 0} → Result ℕ Trap → ValueType → Region → List Region → List Value → Configuration S →
+    Step S
 finish (Ok n) kind region around operands c = onward region around (value_of kind n ∷ operands) c
 finish (Err cause) kind region around operands c = ended (Trapped cause) c
 
@@ -170,7 +181,9 @@ extended width kind n = if nat_lt n (2 ^ (8 * width - 1)) then n else n + (2 ^ 3
 abbrev pub load : {S : Type 0} → ℕ → Option ℕ → Region → List Region → List Value → Configuration S → Step S
 load opcode None region around operands c = ended (Trapped trap.Memory) c
 load opcode (Some n) region around operands c =
-    onward region around (value_of (load_type opcode) (if is_signed_load opcode then extended (load_width opcode) (load_type opcode) n else n) ∷ operands) c
+    onward region around
+    (value_of (load_type opcode)
+    (if is_signed_load opcode then extended (load_width opcode) (load_type opcode) n else n) ∷ operands) c
 
 abbrev pub store : {S : Type 0} → ℕ → ℕ → ℕ → Region → List Region → List Value → Configuration S → Step S
 store opcode at n region around operands c =
@@ -200,7 +213,8 @@ return_with (value ∷ values) c = ended (Returned (cast_signed w64 (word_of val
 -- a region closes and hands its result to the one around it
 abbrev pub hand_on : {S : Type 0} → List Value → List Region → Configuration S → Step S
 hand_on out [] c = fault
-hand_on out (region ∷ around) c = next (record c { regions = record region { operands = out ++ region.operands } ∷ around })
+hand_on out (region ∷ around) c =
+    next (record c { regions = record region { operands = out ++ region.operands } ∷ around })
 
 abbrev pub close : {S : Type 0} → Kind → List Value → List Region → Configuration S → Step S
 close body out around c = return_with out c
@@ -209,8 +223,10 @@ close (turns whole) out around c = hand_on out around c
 
 -- at the region that a branch names, with the operands of the innermost
 abbrev pub arrive : {S : Type 0} → Kind → Region → List Region → List Value → Configuration S → Step S
-arrive (turns whole) region around operands c = next (record c { regions = record region { operands = []; rest = whole } ∷ around })
-arrive inner region around operands c = with_some (taken_result region.result operands) (λ out. close inner out around c)
+arrive (turns whole) region around operands c =
+    next (record c { regions = record region { operands = []; rest = whole } ∷ around })
+arrive inner region around operands c =
+    with_some (taken_result region.result operands) (λ out. close inner out around c)
 arrive body region around operands c = with_some (taken_result region.result operands) (λ out. close body out around c)
 
 -- a branch: the regions inside the one that it names close
@@ -244,7 +260,8 @@ act world op.Unreachable region around operands c = ended (Trapped trap.Unreacha
 act world op.Nop region around operands c = onward region around operands c
 act world (op.Br label) region around operands c = branch label (region ∷ around) operands c
 act world (op.BrIf label) region around operands c =
-    with_word operands (λ condition left. if condition == 0 then onward region around left c else branch label (region ∷ around) left c)
+    with_word operands
+    (λ condition left. if condition == 0 then onward region around left c else branch label (region ∷ around) left c)
 act world (op.BrTable labels last) region around operands c =
     with_word operands (λ index left. branch (label_at labels last index) (region ∷ around) left c)
 act world op.Return region around operands c = leave (region ∷ around) operands c
@@ -254,20 +271,24 @@ act world (op.Call function) region around operands c =
 act world op.Drop region around operands c = with_value operands (λ value left. onward region around left c)
 act world op.Select region around operands c =
     with_word operands (λ condition left. with_value left (λ b below. with_value below (λ a under.
-    if is_same_type (type_of b) (type_of a) then onward region around ((if condition == 0 then b else a) ∷ under) c else fault)))
-act world (op.LocalGet local) region around operands c = with_some (slice_get c.locals local) (λ value. onward region around (value ∷ operands) c)
+    if is_same_type (type_of b) (type_of a) then onward region around ((if condition == 0 then b else a) ∷ under) c
+    else fault)))
+act world (op.LocalGet local) region around operands c =
+    with_some (slice_get c.locals local) (λ value. onward region around (value ∷ operands) c)
 act world (op.LocalSet local) region around operands c =
     with_some (slice_get c.locals local) (λ old. with_all (type_of old ∷ []) operands (λ taken left.
     with_value taken (λ value none. onward region around left (put_local local value c))))
 act world (op.LocalTee local) region around operands c =
     with_some (slice_get c.locals local) (λ old. with_all (type_of old ∷ []) operands (λ taken left.
     with_value taken (λ value none. onward region around (value ∷ left) (put_local local value c))))
-act world (op.GlobalGet global) region around operands c = with_some (slice_get c.globals global) (λ value. onward region around (value ∷ operands) c)
+act world (op.GlobalGet global) region around operands c =
+    with_some (slice_get c.globals global) (λ value. onward region around (value ∷ operands) c)
 act world (op.GlobalSet global) region around operands c =
     with_some (slice_get c.globals global) (λ old. with_all (type_of old ∷ []) operands (λ taken left.
     with_value taken (λ value none. onward region around left (put_global global value c))))
 act world (op.Load opcode align offset) region around operands c =
-    with_word operands (λ address left. load opcode (loaded c.memory (address + offset) (load_width opcode)) region around left c)
+    with_word operands
+    (λ address left. load opcode (loaded c.memory (address + offset) (load_width opcode)) region around left c)
 act world (op.Store opcode align offset) region around operands c =
     with_all (store_type opcode ∷ I32 ∷ []) operands (λ taken left.
     store opcode (second taken + offset) (first taken) region around left c)
@@ -275,23 +296,34 @@ act world op.MemorySize region around operands c = onward region around (word32 
 act world (op.I32Const n) region around operands c = onward region around (word32 (cast_unsigned w32 n) ∷ operands) c
 act world (op.I64Const n) region around operands c = onward region around (word64 (cast_unsigned w64 n) ∷ operands) c
 act world (op.Number opcode) region around operands c =
-    with_all (number_takes opcode) operands (λ taken left. finish (numeric opcode taken) (number_gives opcode) region around left c)
+    with_all (number_takes opcode) operands
+    (λ taken left. finish (numeric opcode taken) (number_gives opcode) region around left c)
 act world instruction region around operands c = fault
 
 -- opens a region behind which this one goes on
-abbrev pub enter : {S : Type 0} → Kind → Option ValueType → Sequence → Region → List Region → List Value → Configuration S → Step S
+abbrev pub enter : {S : Type 0} → Kind → Option ValueType → Sequence → Region → List Region → List Value →
+    Configuration S → Step S
 enter kind result inside region around operands c =
-    next (record c { regions = record { kind = kind; result = result; operands = []; rest = inside } ∷ record region { operands = operands } ∷ around })
+    next (record c {
+      regions =
+          record { kind = kind; result = result; operands = []; rest = inside } ∷
+          record region { operands = operands } ∷ around;
+    })
 
 -- the first node of the innermost region's rest
 abbrev pub node : {S : Type 0} → World S → Sequence → Region → List Region → Configuration S → Step S
-node world done region around c = with_some (whole_result region.result region.operands) (λ out. close region.kind out around c)
-node world (plain instruction rest) region around c = act world instruction (record region { rest = rest }) around region.operands c
-node world (block result inside rest) region around c = enter inner result inside (record region { rest = rest }) around region.operands c
-node world (loop result inside rest) region around c = enter (turns inside) result inside (record region { rest = rest }) around region.operands c
+node world done region around c =
+    with_some (whole_result region.result region.operands) (λ out. close region.kind out around c)
+node world (plain instruction rest) region around c =
+    act world instruction (record region { rest = rest }) around region.operands c
+node world (block result inside rest) region around c =
+    enter inner result inside (record region { rest = rest }) around region.operands c
+node world (loop result inside rest) region around c =
+    enter (turns inside) result inside (record region { rest = rest }) around region.operands c
 node world (if_then result inside rest) region around c =
     with_word region.operands (λ condition left.
-    if condition == 0 then onward (record region { rest = rest }) around left c else enter inner result inside (record region { rest = rest }) around left c)
+    if condition == 0 then onward (record region { rest = rest }) around left c
+    else enter inner result inside (record region { rest = rest }) around left c)
 node world (if_else result one other rest) region around c =
     with_word region.operands (λ condition left.
     enter inner result (if condition == 0 then other else one) (record region { rest = rest }) around left c)
@@ -330,4 +362,5 @@ EndsAfter fault more outcome last later = ⊥
 -- the n-th step from a configuration ends the run so, and all before it go on
 abbrev pub Ends : {S : Type 0} → World S → ℕ → Configuration S → Outcome → Configuration S → Type 0
 Ends world zero c outcome last = ⊥
-Ends world (suc more) c outcome last = EndsAfter (step world c) more outcome last (λ later. Ends world more later outcome last)
+Ends world (suc more) c outcome last =
+    EndsAfter (step world c) more outcome last (λ later. Ends world more later outcome last)

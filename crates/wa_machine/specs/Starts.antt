@@ -15,8 +15,13 @@ use Rattle.wa_ops.specs.declared.op.ValueType.{ValueType}
 use Rattle.wa_machine.specs.Machine.{Value, word32, value_of, Configuration, World, HostMeaning, start}
 
 -- what a host makes of calls
-abbrev pub meaning_of : {S : Type 0} → (S → ℕ → List ℕ → List ℕ → ℤ) → (S → ℕ → List ℕ → List ℕ → List ℕ) → (S → ℕ → List ℕ → List ℕ → S) → HostMeaning S
-meaning_of answer memory_after state_after = record { answer = answer; memory_after = memory_after; state_after = state_after }
+abbrev pub meaning_of : {S : Type 0} → (S → ℕ → List ℕ → List ℕ → ℤ) → (S → ℕ → List ℕ → List ℕ → List ℕ) →
+    (S → ℕ → List ℕ → List ℕ → S) → HostMeaning S
+meaning_of answer memory_after state_after = record {
+  answer = answer;
+  memory_after = memory_after;
+  state_after = state_after;
+}
 
 -- a variable of this type before anything is put there
 abbrev pub zero_of : ValueType → Value
@@ -50,7 +55,8 @@ first_place (instruction ∷ ops) = address_of instruction
 
 -- the segments are written in order
 abbrev pub with_segments : List ℕ → List Segment → List ℕ
-with_segments memory segments = fold (λ bytes segment. written bytes (first_place segment.offset) segment.bytes) memory segments
+with_segments memory segments =
+    fold (λ bytes segment. written bytes (first_place segment.offset) segment.bytes) memory segments
 
 -- so many pages of zeros, with the segments written
 abbrev pub first_memory : ℕ → List Segment → List ℕ

@@ -1,4 +1,5 @@
-//! The machine that runs hooks, as a definition, and the laws that no run of it passes the bound and that a run is a function.
+//! The machine that runs hooks, as a definition, and the laws that no run of it passes the bound and that a run is a
+//! function.
 #![tactic(auto)]
 
 ghost use Rattle.wa_machine.specs.Law.{WithinBound};

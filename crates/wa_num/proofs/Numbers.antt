@@ -4,7 +4,8 @@ use Rattle.std.specs.Int.{w64, from_le_bytes}
 use Rattle.wa_num.specs.Memory.{little}
 
 -- up to eight bytes with zeros behind them spell the same number
-pub little_widened : (bytes : List ℕ) → length bytes ≤ 8 → from_le_bytes w64 (bytes ++ replicate (8 - length bytes) 0) ≡ little bytes
+pub little_widened : (bytes : List ℕ) → length bytes ≤ 8 →
+    from_le_bytes w64 (bytes ++ replicate (8 - length bytes) 0) ≡ little bytes
 little_widened [] h = refl
 little_widened (a ∷ []) h = omega arith
 little_widened (a ∷ b ∷ []) h = omega arith
@@ -17,7 +18,8 @@ little_widened (a ∷ b ∷ c ∷ d ∷ e ∷ f ∷ g ∷ i ∷ []) h = omega ar
 little_widened (a ∷ b ∷ c ∷ d ∷ e ∷ f ∷ g ∷ i ∷ j ∷ more) h = absurd (omega arith)
 
 -- up to eight bytes spell a number of so many digits in base 256
-pub little_below : (bytes : List ℕ) → ((i : ℕ) → get_or bytes i 0 < 256) → length bytes ≤ 8 → little bytes < 256 ^ length bytes
+pub little_below : (bytes : List ℕ) → ((i : ℕ) → get_or bytes i 0 < 256) → length bytes ≤ 8 →
+    little bytes < 256 ^ length bytes
 little_below [] t h = omega arith
 little_below (a ∷ []) t h = omega (arith, t 0)
 little_below (a ∷ b ∷ []) t h = omega (arith, t 0, t 1)

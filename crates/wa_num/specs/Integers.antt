@@ -1,12 +1,15 @@
 -- The integer operations of WebAssembly Core 1.0, "Integer Operations", on numbers from 0 to 2 ^ N - 1.
-use Rattle.std.specs.Prelude.{ℕ, suc, ℤ, pos, negsuc, neg_ℤ, unsigned_abs, ◌+◌, ◌-◌, ◌*◌, ◌/◌, ◌%◌, ◌^◌, Bool, ◌==◌, ◌&&◌, not, nat_lt, nat_le, if◌then◌else◌, Result, Ok, Err, bit_and, bit_or, bit_xor}
-use Rattle.std.specs.Int.{Width, w8, w16, w32, w64, cast_signed, cast_unsigned, leading_zeros, trailing_zeros, from_bool}
+use Rattle.std.specs.Prelude.{ℕ, suc, ℤ, pos, negsuc, neg_ℤ, unsigned_abs, ◌+◌, ◌-◌, ◌*◌, ◌/◌, ◌%◌, ◌^◌, Bool, ◌==◌}
+use Rattle.std.specs.Prelude.{◌&&◌, not, nat_lt, nat_le, if◌then◌else◌, Result, Ok, Err, bit_and, bit_or, bit_xor}
+use Rattle.std.specs.Int.{Width, w8, w16, w32, w64, cast_signed, cast_unsigned, leading_zeros, trailing_zeros}
+use Rattle.std.specs.Int.{from_bool}
 use Rattle.std.specs.Int.RustNames.{int_lt, int_le, count_ones}
 use mir.Val.{bits, hbits}
 use Rattle.hk_base.specs.declared.outcome.Trap.{Trap}
 use Rattle.hk_base.specs.declared.outcome.Trap.TheVariants.{DivideByZero, DivideOverflow}
 use Rattle.wa_num.specs.declared.operators.Binary.{Binary}
-use Rattle.wa_num.specs.declared.operators.Binary.TheVariants.{Add, Sub, Mul, DivS, DivU, RemS, RemU, And, Or, Xor, Shl, ShrS, ShrU, Rotl, Rotr}
+use Rattle.wa_num.specs.declared.operators.Binary.TheVariants.{Add, Sub, Mul, DivS, DivU, RemS, RemU, And, Or, Xor, Shl}
+use Rattle.wa_num.specs.declared.operators.Binary.TheVariants.{ShrS, ShrU, Rotl, Rotr}
 use Rattle.wa_num.specs.declared.operators.Comparison.{Comparison}
 use Rattle.wa_num.specs.declared.operators.Comparison.TheVariants.{Eq, Ne, LtS, LtU, GtS, GtU, LeS, LeU, GeS, GeU}
 use Rattle.wa_num.specs.declared.operators.Conversion.{Conversion}
@@ -50,7 +53,8 @@ divide_signed w a b =
 abbrev pub remainder_signed : Width → ℕ → ℕ → Result ℕ Trap
 remainder_signed w a b = if b == 0 then Err DivideByZero else Ok (unsigned w (remainder (signed w a) (signed w b)))
 
--- the binary digits of a, turned k places toward the high end, where k is below N: those past the end come back in at the low one
+-- the binary digits of a, turned k places toward the high end, where k is below N: those past the end come back in at
+-- the low one
 abbrev pub turned_left : Width → ℕ → ℕ → ℕ
 turned_left w a k = bit_or ((a * 2 ^ k) % 2 ^ bits w) (a / 2 ^ ((bits w - k) % bits w))
 
@@ -75,7 +79,8 @@ binary w ShrU a b = Ok (a / 2 ^ (b % bits w))
 binary w Rotl a b = Ok (turned_left w a (b % bits w))
 binary w Rotr a b = Ok (turned_right w a (b % bits w))
 
--- How many of the N binary digits are 0 above the highest 1, or below the lowest 1, all N of them for 0; and how many are 1.
+-- How many of the N binary digits are 0 above the highest 1, or below the lowest 1, all N of them for 0; and how many
+-- are 1.
 -- The low 8, 16 or 32 bits, read as signed (the proposal "Sign-extension operators").
 abbrev pub unary : Width → Unary → ℕ → ℕ
 unary w Clz a = leading_zeros w a

@@ -1,5 +1,7 @@
--- Linear memory as a list of bytes (WebAssembly Core 1.0, "Memory Instructions" and "Storage" under "Numerics"): numbers stand in it with the lowest byte first.
-use Rattle.std.specs.Prelude.{ℕ, zero, suc, ◌+◌, ◌*◌, ◌/◌, ◌%◌, Bool, ◌==◌, ◌||◌, nat_le, if◌then◌else◌, List, [], ◌∷◌, ◌++◌, length, take, drop, Option, Some, None}
+-- Linear memory as a list of bytes (WebAssembly Core 1.0, "Memory Instructions" and "Storage" under "Numerics"):
+-- numbers stand in it with the lowest byte first.
+use Rattle.std.specs.Prelude.{ℕ, zero, suc, ◌+◌, ◌*◌, ◌/◌, ◌%◌, Bool, ◌==◌, ◌||◌, nat_le, if◌then◌else◌, List, [], ◌∷◌}
+use Rattle.std.specs.Prelude.{◌++◌, length, take, drop, Option, Some, None}
 
 -- the widths of accesses, in bytes
 abbrev pub is_width : ℕ → Bool

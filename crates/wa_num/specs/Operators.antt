@@ -1,7 +1,9 @@
--- Which operation an opcode names (WebAssembly Core 1.0, binary format, "Numeric Instructions"): that of i32, or that of i64.
+-- Which operation an opcode names (WebAssembly Core 1.0, binary format, "Numeric Instructions"): that of i32, or that
+-- of i64.
 use Rattle.std.specs.Prelude.{ℕ, ◌==◌, ◌||◌, if◌then◌else◌}
 use Rattle.wa_num.specs.declared.operators.Binary.{Binary}
-use Rattle.wa_num.specs.declared.operators.Binary.TheVariants.{Add, Sub, Mul, DivS, DivU, RemS, RemU, And, Or, Xor, Shl, ShrS, ShrU, Rotl, Rotr}
+use Rattle.wa_num.specs.declared.operators.Binary.TheVariants.{Add, Sub, Mul, DivS, DivU, RemS, RemU, And, Or, Xor, Shl}
+use Rattle.wa_num.specs.declared.operators.Binary.TheVariants.{ShrS, ShrU, Rotl, Rotr}
 use Rattle.wa_num.specs.declared.operators.Comparison.{Comparison}
 use Rattle.wa_num.specs.declared.operators.Comparison.TheVariants.{Eq, Ne, LtS, LtU, GtS, GtU, LeS, LeU, GeS, GeU}
 use Rattle.wa_num.specs.declared.operators.Conversion.{Conversion}

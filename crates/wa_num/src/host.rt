@@ -5,7 +5,8 @@ ghost use Rattle.wa_ops.specs.Rows.{rollback_row, row_parameters};
 use crate::memory::Memory;
 use wa_ops::{CallNo, NoMemory};
 
-/// What a run calls beyond its own module: the rows of the table of API calls behind those of the guard, `accept` and `rollback`.
+/// What a run calls beyond its own module: the rows of the table of API calls behind those of the guard, `accept` and
+/// `rollback`.
 ///
 /// Its meaning is a definition of its own: from the state before, the row, the arguments and the memory it gives the
 /// answer, the memory after and the state after.

@@ -123,7 +123,8 @@ pub fn unary32(opcode: u8, a: u32) -> u32
     }
 }
 
-/// `clz`, `ctz` or `popcnt` of `i64`, by opcode 79 to 7B; `extend8_s`, `extend16_s` or `extend32_s`, by opcode C2 to C4.
+/// `clz`, `ctz` or `popcnt` of `i64`, by opcode 79 to 7B; `extend8_s`, `extend16_s` or `extend32_s`, by opcode C2 to
+/// C4.
 #[inline(always)]
 pub fn unary64(opcode: u8, a: u64) -> u64
     requires group { IsTrue (is_unary64 opcode) }
@@ -195,7 +196,8 @@ pub fn compare64(opcode: u8, a: u64, b: u64) -> u32
     })
 }
 
-/// `i32.wrap_i64` (A7), `i64.extend_i32_s` (AC) or `i64.extend_i32_u` (AD). A number of `i32` is extended by zeros on both sides.
+/// `i32.wrap_i64` (A7), `i64.extend_i32_s` (AC) or `i64.extend_i32_u` (AD). A number of `i32` is extended by zeros on
+/// both sides.
 #[inline(always)]
 pub fn convert(opcode: u8, a: u64) -> u64
     requires group { (opcode ≡ 0xA7) ⊎ ((opcode ≡ 0xAC) ⊎ (opcode ≡ 0xAD)) }

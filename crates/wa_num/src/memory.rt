@@ -1,4 +1,5 @@
-ghost use Rattle.std.specs.Prelude.{◌≡◌, ◌+◌, ◌-◌, ◌++◌, ◌*◌, ◌<◌, ◌^◌, ◌≤◌, ◌↔◌, IfOk, IsTrue, MatchOption, drop, length, replicate, take};
+ghost use Rattle.std.specs.Prelude.{◌≡◌, ◌+◌, ◌-◌, ◌++◌, ◌*◌, ◌<◌, ◌^◌, ◌≤◌, ◌↔◌, IfOk, IsTrue, MatchOption, drop};
+ghost use Rattle.std.specs.Prelude.{length, replicate, take};
 ghost use Rattle.wa_num.specs.Memory.{cells, is_width, little, loaded, written};
 
 use std::alloc::Global;

@@ -19,7 +19,8 @@ NoDearer [] [] = Unit {0}
 NoDearer (x ∷ xs) (y ∷ ys) = (x.limit ≡ y.limit) × (x.cost ≤ y.cost) × NoDearer xs ys
 NoDearer xs ys = ⊥
 
-both : (xs ys : List LoopCost) (us vs : List LoopCost) → NoDearer xs ys → NoDearer us vs → NoDearer (xs ++ us) (ys ++ vs)
+both : (xs ys : List LoopCost) (us vs : List LoopCost) → NoDearer xs ys → NoDearer us vs →
+    NoDearer (xs ++ us) (ys ++ vs)
 both [] [] us vs front back = back
 both [] (y ∷ ys) us vs front back = elim front [ ]
 both (x ∷ xs) [] us vs front back = elim front [ ]
@@ -28,10 +29,13 @@ both (x ∷ xs) (y ∷ ys) us vs front back = (front.0, front.1, both xs ys us v
 loops_cheaper : (code : Sequence) → NoDearer (loops 1 code) (loops 0 code)
 loops_cheaper done = tt
 loops_cheaper (plain op rest) = loops_cheaper rest
-loops_cheaper (block result body rest) = both (loops 1 body) (loops 0 body) _ _ (loops_cheaper body) (loops_cheaper rest)
+loops_cheaper (block result body rest) =
+    both (loops 1 body) (loops 0 body) _ _ (loops_cheaper body) (loops_cheaper rest)
 loops_cheaper (loop result body rest) =
-    both (loop_cost 1 body ∷ loops 1 body) (loop_cost 0 body ∷ loops 0 body) _ _ (refl, omega (arith, cheaper body), loops_cheaper body) (loops_cheaper rest)
-loops_cheaper (if_then result body rest) = both (loops 1 body) (loops 0 body) _ _ (loops_cheaper body) (loops_cheaper rest)
+    both (loop_cost 1 body ∷ loops 1 body) (loop_cost 0 body ∷ loops 0 body) _ _
+    (refl, omega (arith, cheaper body), loops_cheaper body) (loops_cheaper rest)
+loops_cheaper (if_then result body rest) =
+    both (loops 1 body) (loops 0 body) _ _ (loops_cheaper body) (loops_cheaper rest)
 loops_cheaper (if_else result first second rest) =
     both (loops 1 first ++ loops 1 second) (loops 0 first ++ loops 0 second) _ _
     (both (loops 1 first) (loops 0 first) _ _ (loops_cheaper first) (loops_cheaper second)) (loops_cheaper rest)

@@ -2,7 +2,9 @@
 use Rattle.std.proofs.Common.{◌≡◌, List, [], ◌∷◌, Some, sym, ◌∙◌, ap, subst, refl}
 use Rattle.wa_ops.specs.declared.op.Op.{Op}
 use Rattle.wa_ops.specs.declared.op.Op.TheVariants.{Block, Loop, If, Else, End}
-use Rattle.wa_ops.specs.Sequences.{Sequence, done, plain, block, loop, if_then, if_else, nesting, IsTree, flat, Reads, Open, nothing, to_end, to_else, broken, put_node, put_region, put_if, put_else, put_end, put_by, parse, whole, tree_of, OneTree, TreeReads}
+use Rattle.wa_ops.specs.Sequences.{Sequence, done, plain, block, loop, if_then, if_else, nesting, IsTree, flat, Reads}
+use Rattle.wa_ops.specs.Sequences.{Open, nothing, to_end, to_else, broken, put_node, put_region, put_if, put_else}
+use Rattle.wa_ops.specs.Sequences.{put_end, put_by, parse, whole, tree_of, OneTree, TreeReads}
 
 -- a sequence, and one behind it
 abbrev pub joined : Sequence → Sequence → Sequence
@@ -44,7 +46,8 @@ onto_done (to_else rest around) h = refl
 onto_done nothing h = absurd h
 onto_done broken h = absurd h
 
-pub node_onto : (node : Sequence → Sequence) (rest code : Sequence) (found : Open) → ((more : Sequence) → node (joined rest more) ≡ joined code more) → put_node node (onto rest found) ≡ onto code found
+pub node_onto : (node : Sequence → Sequence) (rest code : Sequence) (found : Open) →
+    ((more : Sequence) → node (joined rest more) ≡ joined code more) → put_node node (onto rest found) ≡ onto code found
 node_onto node rest code (to_end more around) h = ap (λ c. to_end c around) (h more)
 node_onto node rest code (to_else more around) h = ap (λ c. to_else c around) (h more)
 node_onto node rest code nothing h = refl
@@ -64,27 +67,35 @@ closed body behind found o e call =
     let ended : parse (End ∷ behind) ≡ to_end done found = ap put_end e ∙ end_of_open found o in
     call (subst IsOpen (sym ended) tt) ∙ ap (onto body) ended ∙ ap (λ b. to_end b found) (joined_done body)
 
-pub parse_flat : (code : Sequence) (after : List Op) → IsTree code → IsOpen (parse after) → parse (flat code after) ≡ onto code (parse after)
+pub parse_flat : (code : Sequence) (after : List Op) → IsTree code → IsOpen (parse after) →
+    parse (flat code after) ≡ onto code (parse after)
 parse_flat done after t o = onto_done (parse after) o
 parse_flat (plain op rest) after t o =
     ap (λ n. put_by n op (parse (flat rest after))) t.0
     ∙ ap (put_node (plain op)) (parse_flat rest after t.1 o)
     ∙ node_onto (plain op) rest (plain op rest) (parse after) (λ more. refl)
 parse_flat (block result body rest) after t o =
-    ap (put_region (block result)) (closed body (flat rest after) (onto rest (parse after)) (onto_open rest (parse after) o) (parse_flat rest after t.1 o) (parse_flat body (End ∷ flat rest after) t.0))
+    ap (put_region (block result)) (closed body (flat rest after) (onto rest (parse after))
+    (onto_open rest (parse after) o) (parse_flat rest after t.1 o) (parse_flat body (End ∷ flat rest after) t.0))
     ∙ node_onto (block result body) rest (block result body rest) (parse after) (λ more. refl)
 parse_flat (loop result body rest) after t o =
-    ap (put_region (loop result)) (closed body (flat rest after) (onto rest (parse after)) (onto_open rest (parse after) o) (parse_flat rest after t.1 o) (parse_flat body (End ∷ flat rest after) t.0))
+    ap (put_region (loop result)) (closed body (flat rest after) (onto rest (parse after))
+    (onto_open rest (parse after) o) (parse_flat rest after t.1 o) (parse_flat body (End ∷ flat rest after) t.0))
     ∙ node_onto (loop result body) rest (loop result body rest) (parse after) (λ more. refl)
 parse_flat (if_then result body rest) after t o =
-    ap (put_if result) (closed body (flat rest after) (onto rest (parse after)) (onto_open rest (parse after) o) (parse_flat rest after t.1 o) (parse_flat body (End ∷ flat rest after) t.0))
+    ap (put_if result) (closed body (flat rest after) (onto rest (parse after)) (onto_open rest (parse after) o)
+    (parse_flat rest after t.1 o) (parse_flat body (End ∷ flat rest after) t.0))
     ∙ node_onto (if_then result body) rest (if_then result body rest) (parse after) (λ more. refl)
 parse_flat (if_else result first second rest) after t o =
     let at_end : parse (flat second (End ∷ flat rest after)) ≡ to_end second (onto rest (parse after)) =
-    closed second (flat rest after) (onto rest (parse after)) (onto_open rest (parse after) o) (parse_flat rest after t.2 o) (parse_flat second (End ∷ flat rest after) t.1) in
-    let at_else : parse (Else ∷ flat second (End ∷ flat rest after)) ≡ to_else done (to_end second (onto rest (parse after))) = ap put_else at_end in
+    closed second (flat rest after) (onto rest (parse after)) (onto_open rest (parse after) o)
+    (parse_flat rest after t.2 o) (parse_flat second (End ∷ flat rest after) t.1) in
+    let at_else : parse (Else ∷ flat second (End ∷ flat rest after))
+    ≡ to_else done (to_end second (onto rest (parse after))) =
+    ap put_else at_end in
     ap (put_if result)
-    (parse_flat first (Else ∷ flat second (End ∷ flat rest after)) t.0 (subst IsOpen (sym at_else) tt) ∙ ap (onto first) at_else
+    (parse_flat first (Else ∷ flat second (End ∷ flat rest after)) t.0 (subst IsOpen (sym at_else) tt)
+    ∙ ap (onto first) at_else
     ∙ ap (λ a. to_else a (to_end second (onto rest (parse after)))) (joined_done first))
     ∙ node_onto (if_else result first second) rest (if_else result first second rest) (parse after) (λ more. refl)
 
@@ -128,8 +139,14 @@ put_sound (Loop result) (to_end body (to_end code around)) t = record { spells =
 put_sound (Loop result) (to_end body (to_else code around)) t = record { spells = refl; trees = ((t.0, t.1.0), t.1.1) }
 put_sound (If result) (to_end body (to_end code around)) t = record { spells = refl; trees = ((t.0, t.1.0), t.1.1) }
 put_sound (If result) (to_end body (to_else code around)) t = record { spells = refl; trees = ((t.0, t.1.0), t.1.1) }
-put_sound (If result) (to_else first (to_end second (to_end code around))) t = record { spells = refl; trees = ((t.0, t.1.0, t.1.1.0), t.1.1.1) }
-put_sound (If result) (to_else first (to_end second (to_else code around))) t = record { spells = refl; trees = ((t.0, t.1.0, t.1.1.0), t.1.1.1) }
+put_sound (If result) (to_else first (to_end second (to_end code around))) t = record {
+  spells = refl;
+  trees = ((t.0, t.1.0, t.1.1.0), t.1.1.1);
+}
+put_sound (If result) (to_else first (to_end second (to_else code around))) t = record {
+  spells = refl;
+  trees = ((t.0, t.1.0, t.1.1.0), t.1.1.1);
+}
 put_sound Else nothing t = tt
 put_sound Else (to_else code around) t = tt
 put_sound (Block result) nothing t = tt
@@ -153,10 +170,16 @@ put_sound op nothing t = tt
 put_sound op (to_end code around) t = record { spells = refl; trees = ((refl, t.0), t.1) }
 put_sound op (to_else code around) t = record { spells = refl; trees = ((refl, t.0), t.1) }
 
-pub after_put : (op : Op) (ops : List Op) (found : Open) → IsSound ops found → IsSound (op ∷ ops) (put_by (nesting op) op found)
-after_put op ops nothing s = subst (λ os. IsSound (op ∷ os) (put_by (nesting op) op nothing)) s.spells (put_sound op nothing s.trees)
-after_put op ops (to_end code around) s = subst (λ os. IsSound (op ∷ os) (put_by (nesting op) op (to_end code around))) s.spells (put_sound op (to_end code around) s.trees)
-after_put op ops (to_else code around) s = subst (λ os. IsSound (op ∷ os) (put_by (nesting op) op (to_else code around))) s.spells (put_sound op (to_else code around) s.trees)
+pub after_put : (op : Op) (ops : List Op) (found : Open) → IsSound ops found →
+    IsSound (op ∷ ops) (put_by (nesting op) op found)
+after_put op ops nothing s =
+    subst (λ os. IsSound (op ∷ os) (put_by (nesting op) op nothing)) s.spells (put_sound op nothing s.trees)
+after_put op ops (to_end code around) s =
+    subst (λ os. IsSound (op ∷ os) (put_by (nesting op) op (to_end code around))) s.spells
+    (put_sound op (to_end code around) s.trees)
+after_put op ops (to_else code around) s =
+    subst (λ os. IsSound (op ∷ os) (put_by (nesting op) op (to_else code around))) s.spells
+    (put_sound op (to_else code around) s.trees)
 after_put End ops broken s = tt
 after_put op ops broken s = tt
 
@@ -164,7 +187,8 @@ pub parse_sound : (ops : List Op) → IsSound ops (parse ops)
 parse_sound [] = record { spells = refl; trees = tt }
 parse_sound (op ∷ ops) = after_put op ops (parse ops) (parse_sound ops)
 
-pub whole_tree : (ops : List Op) (found : Open) (code : Sequence) → IsSound ops found → whole found ≡ Some code → Reads ops code
+pub whole_tree : (ops : List Op) (found : Open) (code : Sequence) → IsSound ops found → whole found ≡ Some code →
+    Reads ops code
 whole_tree ops (to_end tree nothing) code s e =
     let p : tree ≡ code = cc in subst (Reads ops) p (record { instructions = sym s.spells; tree = s.trees.0 })
 whole_tree ops nothing code s e = absurd cc

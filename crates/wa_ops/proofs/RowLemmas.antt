@@ -1,5 +1,6 @@
 -- Facts of the table of calls, each by one test over the whole of it.
-use Rattle.std.specs.Prelude.{ℕ, zero, suc, ◌≡◌, ◌≤◌, ◌==◌, ◌&&◌, Bool, true, false, List, [], ◌∷◌, Option, Some, None, if◌then◌else◌, nat_le, length, reverse, slice_get}
+use Rattle.std.specs.Prelude.{ℕ, zero, suc, ◌≡◌, ◌≤◌, ◌==◌, ◌&&◌, Bool, true, false, List, [], ◌∷◌, Option, Some, None}
+use Rattle.std.specs.Prelude.{if◌then◌else◌, nat_le, length, reverse, slice_get}
 use Rattle.std.proofs.Common.{refl, sym, ap, ◌∙◌, arith}
 use Rattle.std.specs.List.{list_all, position}
 use Rattle.std.specs.Option.{option_map_or}
@@ -17,7 +18,9 @@ use Rattle.wa_ops.specs.Typing.{is_same_type}
 pub row_below : (name : List ℕ) (row : ℕ) → row_named name ≡ Some row → row ≤ 64
 unfolding row_named api_calls
 row_below name row e =
-    let within = position-Some (λ call. bytes_eq call.name name) api_calls row (record { name = []; parameters = []; answer = I64 }) e in
+    let within =
+    position-Some (λ call. bytes_eq call.name name) api_calls row (record { name = []; parameters = []; answer = I64 })
+    e in
     omega (arith, within.0)
 
 -- a call takes what its row has, in order
@@ -25,16 +28,20 @@ pub row_takes : (row : ℕ) → takes (callee_of_row (Some row)) ≡ reverse (ro
 unfolding row_parameters api_calls
 row_takes row = first (row == 0) refl
   where
-    third : (c : Bool) → (row == 2) ≡ c → takes (if c then rollback else host_call row (row_parameters row)) ≡ reverse (row_parameters row)
+    third : (c : Bool) → (row == 2) ≡ c →
+        takes (if c then rollback else host_call row (row_parameters row)) ≡ reverse (row_parameters row)
     third true e = ap (λ n. reverse (row_parameters n)) (sym (eqb-true row 2 e))
     third false e = refl
 
-    second : (b : Bool) → (row == 1) ≡ b → takes (if b then accept else if row == 2 then rollback else host_call row (row_parameters row)) ≡ reverse (row_parameters row)
+    second : (b : Bool) → (row == 1) ≡ b →
+        takes (if b then accept else if row == 2 then rollback else host_call row (row_parameters row))
+        ≡ reverse (row_parameters row)
     second true e = ap (λ n. reverse (row_parameters n)) (sym (eqb-true row 1 e))
     second false e = third (row == 2) refl
 
     first : (a : Bool) → (row == 0) ≡ a →
-        takes (if a then guard else if row == 1 then accept else if row == 2 then rollback else host_call row (row_parameters row)) ≡ reverse (row_parameters row)
+        takes (if a then guard else if row == 1 then accept else if row == 2 then rollback
+        else host_call row (row_parameters row)) ≡ reverse (row_parameters row)
     first true e = ap (λ n. reverse (row_parameters n)) (sym (eqb-true row 0 e))
     first false e = second (row == 1) refl
 
@@ -47,7 +54,8 @@ same_wide I32 e = absurd (cc e)
 same_wide F32 e = absurd (cc e)
 same_wide F64 e = absurd (cc e)
 
-all_wide : (calls : List ApiCall) (row : ℕ) → list_all is_wide calls ≡ true → option_map_or (λ call. call.answer) (slice_get calls row) I64 ≡ I64
+all_wide : (calls : List ApiCall) (row : ℕ) → list_all is_wide calls ≡ true →
+    option_map_or (λ call. call.answer) (slice_get calls row) I64 ≡ I64
 all_wide [] row e = refl
 all_wide (call ∷ calls) zero e = same_wide call.answer (and_parts (is_wide call) (list_all is_wide calls) e).0
 all_wide (call ∷ calls) (suc row) e = all_wide calls row (and_parts (is_wide call) (list_all is_wide calls) e).1
@@ -74,11 +82,13 @@ row_gives row = first (row == 0) refl
     third true = refl
     third false = refl
 
-    second : (b : Bool) → gives (if b then accept else if row == 2 then rollback else host_call row (row_parameters row)) ≡ I64
+    second : (b : Bool) →
+        gives (if b then accept else if row == 2 then rollback else host_call row (row_parameters row)) ≡ I64
     second true = refl
     second false = third (row == 2)
 
     first : (a : Bool) → (row == 0) ≡ a →
-        gives (if a then guard else if row == 1 then accept else if row == 2 then rollback else host_call row (row_parameters row)) ≡ row_answer row
+        gives (if a then guard else if row == 1 then accept else if row == 2 then rollback
+        else host_call row (row_parameters row)) ≡ row_answer row
     first true e = sym (ap row_answer (eqb-true row 0 e) ∙ guard_answers)
     first false e = second (row == 1) ∙ sym (others_answer row e)

@@ -1,4 +1,5 @@
--- What the opcodes of loads, stores and numeric instructions take and give (WebAssembly Core 1.0, "Memory Instructions", "Numeric Instructions").
+-- What the opcodes of loads, stores and numeric instructions take and give (WebAssembly Core 1.0, "Memory
+-- Instructions", "Numeric Instructions").
 use Rattle.std.specs.Prelude.{ℕ, Bool, ◌==◌, ◌||◌, if◌then◌else◌, List, [], ◌∷◌}
 use Rattle.wa_ops.specs.declared.op.ValueType.{ValueType}
 use Rattle.wa_ops.specs.declared.op.ValueType.TheVariants.{I32, I64}

@@ -17,7 +17,8 @@ cost version (plain op rest) = 1 + cost version rest
 cost version (block result body rest) = 2 + cost version body + cost version rest
 cost version (loop result body rest) = 1 + cost version rest
 cost version (if_then result body rest) = 2 + cost version body + cost version rest
-cost version (if_else result first second rest) = 2 + arms version (cost version first) (cost version second) + cost version rest
+cost version (if_else result first second rest) =
+    2 + arms version (cost version first) (cost version second) + cost version rest
 
 -- besides these, the end of the region itself
 abbrev pub own : ℕ → Sequence → ℕ
@@ -29,7 +30,10 @@ pub record GuardNumbers : Type 0 where
   pub limit : ℕ
 
 abbrev pub guard_numbers : Sequence → GuardNumbers
-guard_numbers (plain (I32Const id) (plain (I32Const limit) rest)) = record { id = cast_unsigned w32 id; limit = cast_unsigned w32 limit }
+guard_numbers (plain (I32Const id) (plain (I32Const limit) rest)) = record {
+  id = cast_unsigned w32 id;
+  limit = cast_unsigned w32 limit;
+}
 guard_numbers body = record { id = 0; limit = 0 }
 
 -- a loop's guard, and what a pass of its body costs
@@ -39,7 +43,11 @@ pub record LoopCost : Type 0 where
   pub cost : ℕ
 
 abbrev pub loop_cost : ℕ → Sequence → LoopCost
-loop_cost version body = record { id = (guard_numbers body).id; limit = (guard_numbers body).limit; cost = own version body }
+loop_cost version body = record {
+  id = (guard_numbers body).id;
+  limit = (guard_numbers body).limit;
+  cost = own version body;
+}
 
 -- the loops at any depth, in both arms of each `if`
 abbrev pub loops : ℕ → Sequence → List LoopCost
@@ -83,4 +91,5 @@ IsGuarded calls (plain op rest) = IsGuarded calls rest
 IsGuarded calls (block result body rest) = IsGuarded calls body × IsGuarded calls rest
 IsGuarded calls (loop result body rest) = HasGuard calls body × IsGuarded calls body × IsGuarded calls rest
 IsGuarded calls (if_then result body rest) = IsGuarded calls body × IsGuarded calls rest
-IsGuarded calls (if_else result first second rest) = IsGuarded calls first × IsGuarded calls second × IsGuarded calls rest
+IsGuarded calls (if_else result first second rest) =
+    IsGuarded calls first × IsGuarded calls second × IsGuarded calls rest

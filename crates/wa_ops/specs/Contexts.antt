@@ -1,5 +1,7 @@
--- What the code of a module's function may name (WebAssembly Core 1.0, "Contexts" of validation; the rows of calls are this project's own).
-use Rattle.std.specs.Prelude.{ℕ, ◌==◌, List, [], ◌∷◌, ◌++◌, Option, Some, None, Bool, true, false, if◌then◌else◌, map, replicate, slice_get}
+-- What the code of a module's function may name (WebAssembly Core 1.0, "Contexts" of validation; the rows of calls are
+-- this project's own).
+use Rattle.std.specs.Prelude.{ℕ, ◌==◌, List, [], ◌∷◌, ◌++◌, Option, Some, None, Bool, true, false, if◌then◌else◌, map}
+use Rattle.std.specs.Prelude.{replicate, slice_get}
 use Rattle.wa_ops.specs.declared.call_no.CallNo.{CallNo}
 use Rattle.wa_ops.specs.declared.modules.Code.{Code}
 use Rattle.wa_ops.specs.declared.modules.FuncType.{FuncType}

@@ -1,6 +1,8 @@
--- Where the regions of flat code end (WebAssembly Core 1.0, "Control Instructions"; the table of ends is this project's own).
+-- Where the regions of flat code end (WebAssembly Core 1.0, "Control Instructions"; the table of ends is this project's
+-- own).
 use Rattle.std.specs.Prelude.{ℕ, ◌≡◌, ◌+◌, List, [], ◌∷◌}
-use Rattle.wa_ops.specs.Sequences.{Sequence, done, plain, block, loop, if_then, if_else, Nesting, opens_block, opens_loop, opens_if, turns, closes, stands, size}
+use Rattle.wa_ops.specs.Sequences.{Sequence, done, plain, block, loop, if_then, if_else, Nesting, opens_block}
+use Rattle.wa_ops.specs.Sequences.{opens_loop, opens_if, turns, closes, stands, size}
 
 -- the place behind a sequence that begins at this place: each instruction takes one, `else` and `end` too
 abbrev pub behind : Sequence → ℕ → ℕ
@@ -15,14 +17,18 @@ behind (if_else result first second rest) at = behind rest (behind second (behin
 abbrev pub BehindBySize : Type 0
 BehindBySize = (code : Sequence) (at : ℕ) → behind code at ≡ at + size code
 
--- For each instruction of a sequence that begins at this place, with these entries behind it: of a region the place of its `end`,
+-- For each instruction of a sequence that begins at this place, with these entries behind it: of a region the place of
+-- its `end`,
 -- of an `if` with an `else` the place of that `else`, of an `else` that of its `end`, and 0 of every other.
 abbrev pub ends_of : Sequence → ℕ → List ℕ → List ℕ
 ends_of done at after = after
 ends_of (plain op rest) at after = 0 ∷ ends_of rest (at + 1) after
-ends_of (block result body rest) at after = behind body (at + 1) ∷ ends_of body (at + 1) (0 ∷ ends_of rest (behind body (at + 1) + 1) after)
-ends_of (loop result body rest) at after = behind body (at + 1) ∷ ends_of body (at + 1) (0 ∷ ends_of rest (behind body (at + 1) + 1) after)
-ends_of (if_then result body rest) at after = behind body (at + 1) ∷ ends_of body (at + 1) (0 ∷ ends_of rest (behind body (at + 1) + 1) after)
+ends_of (block result body rest) at after =
+    behind body (at + 1) ∷ ends_of body (at + 1) (0 ∷ ends_of rest (behind body (at + 1) + 1) after)
+ends_of (loop result body rest) at after =
+    behind body (at + 1) ∷ ends_of body (at + 1) (0 ∷ ends_of rest (behind body (at + 1) + 1) after)
+ends_of (if_then result body rest) at after =
+    behind body (at + 1) ∷ ends_of body (at + 1) (0 ∷ ends_of rest (behind body (at + 1) + 1) after)
 ends_of (if_else result first second rest) at after =
     behind first (at + 1) ∷ ends_of first (at + 1)
     (behind second (behind first (at + 1) + 1) ∷ ends_of second (behind first (at + 1) + 1)

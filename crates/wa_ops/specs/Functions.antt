@@ -1,4 +1,5 @@
--- The functions that a module defines, counted from 0, and those that it exports (WebAssembly Core 1.0, "Functions" and "Exports").
+-- The functions that a module defines, counted from 0, and those that it exports (WebAssembly Core 1.0, "Functions" and
+-- "Exports").
 use Rattle.std.specs.Prelude.{ℕ, ◌-◌, Bool, List, Option, find, option_map, slice_get}
 use Rattle.wa_ops.specs.declared.modules.Module.{Module}
 use Rattle.wa_ops.specs.declared.modules.ModuleExport.{ModuleExport}

@@ -1,6 +1,10 @@
--- The rules that make a module a hook (this project's own), each as a test of a place, in the order in which faults are told.
--- An index counts the items of a section, a function's number the defined functions, and a place the instructions of a body, each from 0.
-use Rattle.std.specs.Prelude.{ℕ, ◌≡◌, ◌⊎◌, ◌+◌, ◌-◌, ◌*◌, ◌<◌, ◌==◌, ◌&&◌, ◌||◌, not, nat_lt, nat_le, List, [], ◌∷◌, ◌++◌, Option, Some, None, is_some, is_none, Bool, true, false, if◌then◌else◌, length, slice_get, sum_by, codes}
+-- The rules that make a module a hook (this project's own), each as a test of a place, in the order in which faults are
+-- told.
+-- An index counts the items of a section, a function's number the defined functions, and a place the instructions of a
+-- body, each from 0.
+use Rattle.std.specs.Prelude.{ℕ, ◌≡◌, ◌⊎◌, ◌+◌, ◌-◌, ◌*◌, ◌<◌, ◌==◌, ◌&&◌, ◌||◌, not, nat_lt, nat_le, List, [], ◌∷◌}
+use Rattle.std.specs.Prelude.{◌++◌, Option, Some, None, is_some, is_none, Bool, true, false, if◌then◌else◌, length}
+use Rattle.std.specs.Prelude.{slice_get, sum_by, codes}
 use Rattle.std.specs.Int.{cast_unsigned, w32}
 use Rattle.std.specs.List.{list_any}
 use Rattle.std.specs.Option.{option_map_or}
@@ -84,7 +88,8 @@ is_row_item types row other = false
 
 -- a function of `env`, with the name and the type of a row
 abbrev pub is_api_import : List FuncType → Import → Bool
-is_api_import types import = bytes_eq import.module (codes "env") && is_row_item types (row_named import.name) import.item
+is_api_import types import =
+    bytes_eq import.module (codes "env") && is_row_item types (row_named import.name) import.item
 
 -- ---- tables, memories and globals
 
@@ -141,7 +146,8 @@ is_entry imported m export =
     (export.kind == 0) && (nat_le imported export.index &&
     option_map_or (is_function_type (I32 ∷ []) I64) (function_type m (export.index - imported)) false)
 
--- where so many functions are imported: names nothing; `hook` or `cbak` that is no such function; or a function under another name
+-- where so many functions are imported: names nothing; `hook` or `cbak` that is no such function; or a function under
+-- another name
 abbrev pub is_bad_export : ℕ → Module → ModuleExport → Bool
 is_bad_export imported m export =
     nat_le (count_of_kind imported m export.kind) export.index ||
@@ -197,13 +203,15 @@ is_loop instruction = false
 -- a call of `_g` without two constants directly before it
 abbrev pub lacks_constants : List Callee → List Op → ℕ → Bool
 lacks_constants calls ops at =
-    passes (is_guard_call calls) ops at && not (nat_le 2 at && (passes is_constant ops (at - 2) && passes is_constant ops (at - 1)))
+    passes (is_guard_call calls) ops at &&
+    not (nat_le 2 at && (passes is_constant ops (at - 2) && passes is_constant ops (at - 1)))
 
 -- a loop whose body doesn't begin with two constants and a call of `_g`
 abbrev pub lacks_guard : List Callee → List Op → ℕ → Bool
 lacks_guard calls ops at =
     passes is_loop ops at &&
-    not (passes is_constant ops (at + 1) && (passes is_constant ops (at + 2) && passes (is_guard_call calls) ops (at + 3)))
+    not
+    (passes is_constant ops (at + 1) && (passes is_constant ops (at + 2) && passes (is_guard_call calls) ops (at + 3)))
 
 -- ---- the rules in order
 
@@ -230,7 +238,8 @@ float_rules m =
     code_rule fault.FloatCode (in_code (passes is_float_op) m.codes) ∷ []
 
 abbrev pub import_rules : List FuncType → List Import → List Rule
-import_rules types imports = item_rule fault.BadImport (passes (λ import. not (is_api_import types import)) imports) ∷ []
+import_rules types imports =
+    item_rule fault.BadImport (passes (λ import. not (is_api_import types import)) imports) ∷ []
 
 abbrev pub section_rules : Module → List Rule
 section_rules m =
@@ -243,7 +252,8 @@ section_rules m =
 -- where so many functions are imported
 abbrev pub link_rules : ℕ → Module → List Rule
 link_rules imported m =
-    module_rule fault.BadExport (has_repeats m.exports || (not (list_any is_hook m.exports) || list_any (is_bad_export imported m) m.exports)) ∷
+    module_rule fault.BadExport
+    (has_repeats m.exports || (not (list_any is_hook m.exports) || list_any (is_bad_export imported m) m.exports)) ∷
     module_rule fault.Start (is_some m.start) ∷
     module_rule fault.Elements (has_items m.elements) ∷
     item_rule fault.BadData (passes (λ segment. not (is_in_memory m.memories segment)) m.segments) ∷ []
@@ -266,7 +276,9 @@ abbrev pub other_rules : ℕ → List Callee → Module → List Rule
 other_rules imported calls m = section_rules m ++ (link_rules imported m ++ (code_rules calls m ++ guard_rules calls m))
 
 abbrev pub hook_rules : Module → List Rule
-hook_rules m = float_rules m ++ (import_rules m.types m.imports ++ other_rules (length (calls_of m.imports)) (calls_of m.imports) m)
+hook_rules m =
+    float_rules m ++
+    (import_rules m.types m.imports ++ other_rules (length (calls_of m.imports)) (calls_of m.imports) m)
 
 -- ---- the answer
 
@@ -314,7 +326,8 @@ pub record KeepsRules (m : Module) : Type 0 where
   pub tables : (nat_lt 1 (length m.tables) || list_any is_bad_table m.tables) ≡ false
   pub memories : (nat_lt 1 (length m.memories) || list_any is_bad_memory m.memories) ≡ false
   pub globals : (i : ℕ) → passes (λ global. not (is_one (is_constant_of global.kind) global.init)) m.globals i ≡ false
-  pub exports : (has_repeats m.exports || (not (list_any is_hook m.exports) || list_any (is_bad_export (length (calls_of m.imports)) m) m.exports)) ≡ false
+  pub exports : (has_repeats m.exports ||
+      (not (list_any is_hook m.exports) || list_any (is_bad_export (length (calls_of m.imports)) m) m.exports)) ≡ false
   pub start : is_some m.start ≡ false
   pub elements : has_items m.elements ≡ false
   pub segments : (i : ℕ) → passes (λ segment. not (is_in_memory m.memories segment)) m.segments i ≡ false

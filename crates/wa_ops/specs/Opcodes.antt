@@ -1,7 +1,8 @@
 -- The forms of opcodes (WebAssembly Core 1.0, binary format, "Instructions").
 use Rattle.std.specs.Prelude.{ℕ, Bool, ◌==◌, ◌&&◌, ◌||◌, nat_le, if◌then◌else◌}
 use Rattle.wa_ops.specs.declared.opcode.Form.{Form}
-use Rattle.wa_ops.specs.declared.opcode.Form.TheVariants.{Number, Load, Store, FloatAccess, FloatNumber, FloatConstant, Other}
+use Rattle.wa_ops.specs.declared.opcode.Form.TheVariants.{Number, Load, Store, FloatAccess, FloatNumber, FloatConstant}
+use Rattle.wa_ops.specs.declared.opcode.Form.TheVariants.{Other}
 
 -- n lies from the first number to the second
 abbrev pub among : ℕ → ℕ → ℕ → Bool
@@ -19,7 +20,8 @@ is_store n = n == 0x36 || n == 0x37 || among 0x3A 0x3E n
 abbrev pub is_float_access : ℕ → Bool
 is_float_access n = n == 0x2A || n == 0x2B || n == 0x38 || n == 0x39
 
--- the sign extension operators, from i32.extend8_s to i64.extend32_s (WebAssembly's proposal "Sign-extension operators")
+-- the sign extension operators, from i32.extend8_s to i64.extend32_s (WebAssembly's proposal "Sign-extension
+-- operators")
 abbrev pub is_extension : ℕ → Bool
 is_extension n = among 0xC0 0xC4 n
 
@@ -31,7 +33,8 @@ is_unary32 n = among 0x67 0x69 n || among 0xC0 0xC1 n
 abbrev pub is_unary64 : ℕ → Bool
 is_unary64 n = among 0x79 0x7B n || among 0xC2 0xC4 n
 
--- i32.eqz to i64.ge_u; i32.clz to i64.rotr; i32.wrap_i64, i64.extend_i32_s, i64.extend_i32_u; the sign extension operators
+-- i32.eqz to i64.ge_u; i32.clz to i64.rotr; i32.wrap_i64, i64.extend_i32_s, i64.extend_i32_u; the sign extension
+-- operators
 abbrev pub is_number : ℕ → Bool
 is_number n = among 0x45 0x5A n || among 0x67 0x8A n || n == 0xA7 || n == 0xAC || n == 0xAD || is_extension n
 

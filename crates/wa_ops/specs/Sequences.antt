@@ -4,7 +4,8 @@ use Rattle.wa_ops.specs.declared.op.Op.{Op}
 use Rattle.wa_ops.specs.declared.op.Op.TheVariants.{Block, Loop, If, Else, End}
 use Rattle.wa_ops.specs.declared.op.ValueType.{ValueType}
 
--- A list of nodes: the first node, and the sequence behind it. A region has its result and its body; an `if` has one arm or two.
+-- A list of nodes: the first node, and the sequence behind it. A region has its result and its body; an `if` has one
+-- arm or two.
 pub data Sequence : Type 0 where
   done : Sequence
   plain : Op → Sequence → Sequence
@@ -66,7 +67,8 @@ size (loop result body rest) = 2 + size body + size rest
 size (if_then result body rest) = 2 + size body + size rest
 size (if_else result first second rest) = 3 + size first + size second + size rest
 
--- Flat code read from its last instruction to its first: the sequences up to the `end` or `else` that was met, the innermost first.
+-- Flat code read from its last instruction to its first: the sequences up to the `end` or `else` that was met, the
+-- innermost first.
 pub data Open : Type 0 where
   nothing : Open
   to_end : Sequence → Open → Open
@@ -121,4 +123,6 @@ OneTree = (ops : List Op) (a b : Sequence) → Reads ops a → Reads ops b → a
 
 -- the tree is found exactly where there is one
 abbrev pub TreeReads : Type 0
-TreeReads = (ops : List Op) (code : Sequence) → (Reads ops code → tree_of ops ≡ Some code) × (tree_of ops ≡ Some code → Reads ops code)
+TreeReads =
+    (ops : List Op) (code : Sequence) →
+    (Reads ops code → tree_of ops ≡ Some code) × (tree_of ops ≡ Some code → Reads ops code)

@@ -33,7 +33,8 @@ IsSoundOp (BrTable labels last) = IsCounted labels
 IsSoundOp (Load opcode align offset) = form_at opcode ≡ forms.Load
 IsSoundOp (Store opcode align offset) = form_at opcode ≡ forms.Store
 IsSoundOp (Number opcode) = form_at opcode ≡ forms.Number
-IsSoundOp (Float opcode) = (form_at opcode ≡ forms.FloatAccess) ⊎ (form_at opcode ≡ forms.FloatNumber) ⊎ (form_at opcode ≡ forms.FloatConstant)
+IsSoundOp (Float opcode) =
+    (form_at opcode ≡ forms.FloatAccess) ⊎ (form_at opcode ≡ forms.FloatNumber) ⊎ (form_at opcode ≡ forms.FloatConstant)
 IsSoundOp op = Unit {0}
 
 -- flat code that is nested, counted and made of sound instructions

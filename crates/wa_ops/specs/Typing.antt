@@ -1,6 +1,7 @@
 -- Typing of code (WebAssembly Core 1.0, "Validation", "Instructions"), by recursion on the tree.
 -- Indirect calls, growing memory and floats have no type here, since hook rules bar them.
-use Rattle.std.specs.Prelude.{ℕ, ◌≡◌, ◌+◌, ◌^◌, ◌&&◌, nat_le, List, [], ◌∷◌, Option, Some, None, Bool, true, false, if◌then◌else◌, slice_get}
+use Rattle.std.specs.Prelude.{ℕ, ◌≡◌, ◌+◌, ◌^◌, ◌&&◌, nat_le, List, [], ◌∷◌, Option, Some, None, Bool, true, false}
+use Rattle.std.specs.Prelude.{if◌then◌else◌, slice_get}
 use Rattle.wa_ops.specs.declared.op.Op.{Op}
 use Rattle.wa_ops.specs.declared.op.Op.TheVariants as op
 use Rattle.wa_ops.specs.declared.op.ValueType.{ValueType}
@@ -83,7 +84,8 @@ selected [] true = Some (record { slots = any ∷ []; loose = true })
 selected [] false = None
 selected (slot ∷ []) true = Some (record { slots = slot ∷ []; loose = true })
 selected (slot ∷ []) false = None
-selected (slot ∷ other ∷ slots) loose = and_then (one_of slot other) (λ left. Some (record { slots = left ∷ slots; loose = loose }))
+selected (slot ∷ other ∷ slots) loose =
+    and_then (one_of slot other) (λ left. Some (record { slots = left ∷ slots; loose = loose }))
 
 -- without operands of these types, the last pushed first
 abbrev pub pop_all : List ValueType → Stack → Option Stack
@@ -123,7 +125,8 @@ left_with result stack = and_then (pop_result result stack) (λ below. Some loos
 abbrev pub stored : Context → GlobalType → Stack → Option Stack
 stored context global stack = if global.is_mutable then pop global.kind stack else None
 
--- the stack after a plain instruction, where it is well typed; the labels of the open regions carry these, the innermost first
+-- the stack after a plain instruction, where it is well typed; the labels of the open regions carry these, the
+-- innermost first
 abbrev pub effect : Context → List (Option ValueType) → Op → Stack → Option Stack
 effect context labels op.Unreachable stack = Some loosened
 effect context labels op.Nop stack = Some stack
@@ -135,22 +138,30 @@ effect context labels (op.BrTable listed last) stack =
     and_then (pop I32 stack) (λ below. and_then (slice_get labels last) (λ result.
     if all_carry labels result listed then left_with result below else None))
 effect context labels op.Return stack = left_with context.result stack
-effect context labels (op.Call function) stack = and_then (slice_get context.calls function) (λ callee. changed (takes callee) (gives callee) stack)
+effect context labels (op.Call function) stack =
+    and_then (slice_get context.calls function) (λ callee. changed (takes callee) (gives callee) stack)
 effect context labels op.Drop stack = dropped stack.slots stack.loose
 effect context labels op.Select stack = and_then (pop I32 stack) (λ below. selected below.slots below.loose)
-effect context labels (op.LocalGet local) stack = and_then (slice_get context.locals local) (λ kind. Some (push kind stack))
+effect context labels (op.LocalGet local) stack =
+    and_then (slice_get context.locals local) (λ kind. Some (push kind stack))
 effect context labels (op.LocalSet local) stack = and_then (slice_get context.locals local) (λ kind. pop kind stack)
-effect context labels (op.LocalTee local) stack = and_then (slice_get context.locals local) (λ kind. changed (kind ∷ []) kind stack)
-effect context labels (op.GlobalGet global) stack = and_then (slice_get context.globals global) (λ found. Some (push found.kind stack))
-effect context labels (op.GlobalSet global) stack = and_then (slice_get context.globals global) (λ found. stored context found stack)
+effect context labels (op.LocalTee local) stack =
+    and_then (slice_get context.locals local) (λ kind. changed (kind ∷ []) kind stack)
+effect context labels (op.GlobalGet global) stack =
+    and_then (slice_get context.globals global) (λ found. Some (push found.kind stack))
+effect context labels (op.GlobalSet global) stack =
+    and_then (slice_get context.globals global) (λ found. stored context found stack)
 effect context labels (op.Load opcode align offset) stack =
-    if context.has_memory && (is_load opcode && nat_le (2 ^ align) (load_width opcode)) then changed (I32 ∷ []) (load_type opcode) stack else None
+    if context.has_memory && (is_load opcode && nat_le (2 ^ align) (load_width opcode))
+    then changed (I32 ∷ []) (load_type opcode) stack else None
 effect context labels (op.Store opcode align offset) stack =
-    if context.has_memory && (is_store opcode && nat_le (2 ^ align) (store_width opcode)) then pop_all (store_type opcode ∷ I32 ∷ []) stack else None
+    if context.has_memory && (is_store opcode && nat_le (2 ^ align) (store_width opcode))
+    then pop_all (store_type opcode ∷ I32 ∷ []) stack else None
 effect context labels op.MemorySize stack = if context.has_memory then Some (push I32 stack) else None
 effect context labels (op.I32Const n) stack = Some (push I32 stack)
 effect context labels (op.I64Const n) stack = Some (push I64 stack)
-effect context labels (op.Number opcode) stack = if is_number opcode then changed (number_takes opcode) (number_gives opcode) stack else None
+effect context labels (op.Number opcode) stack =
+    if is_number opcode then changed (number_takes opcode) (number_gives opcode) stack else None
 effect context labels instruction stack = None
 
 -- the stack that code leaves, or the place of the first failure
@@ -198,7 +209,8 @@ types context labels (if_then result body rest) place stack =
 types context labels (if_else result first second rest) place stack =
     go_on place (pop I32 stack) (λ below.
     after_region result (place + 1 + size first) (types context (result ∷ labels) first (place + 1) fresh)
-    (after_region result (place + 2 + size first + size second) (types context (result ∷ labels) second (place + 2 + size first) fresh)
+    (after_region result (place + 2 + size first + size second)
+    (types context (result ∷ labels) second (place + 2 + size first) fresh)
     (types context labels rest (place + 3 + size first + size second) (push_result result below))))
 
 -- code that leaves exactly this result

@@ -2,7 +2,8 @@ use std::alloc::{AllocError, AllocFailed};
 
 /// Why a module is no hook: the first rule that it breaks, at the least place.
 ///
-/// `index` counts the items of a section, `func` the defined functions, and `op` the instructions of a body, each from 0.
+/// `index` counts the items of a section, `func` the defined functions, and `op` the instructions of a body, each from
+/// 0.
 #[derive(Clone, Copy, Debug, PartialEq, Eq)]
 pub enum RuleFault {
     /// A type takes or gives a float.

@@ -1,5 +1,6 @@
 -- A run that begins stands where the machine does before its first step.
-use Rattle.std.proofs.Common.{◌≡◌, ◌+◌, ◌≤◌, ◌==◌, if◌then◌else◌, Bool, true, false, ℕ, suc, List, [], ◌∷◌, inl, length, sym, ◌∙◌, ap, subst, refl, arith}
+use Rattle.std.proofs.Common.{◌≡◌, ◌+◌, ◌≤◌, ◌==◌, if◌then◌else◌, Bool, true, false, ℕ, suc, List, [], ◌∷◌, inl, length}
+use Rattle.std.proofs.Common.{sym, ◌∙◌, ap, subst, refl, arith}
 use Rattle.wa_ops.specs.Bound.{bound_at}
 use Rattle.wa_ops.specs.Ends.{behind, ends_of}
 use Rattle.wa_ops.specs.Sequences.{Sequence, done, plain, block, loop, if_then, if_else, flat}
@@ -19,24 +20,31 @@ use Rattle.wa_run.specs.declared.runs.Stopped.{Stopped}
 use Rattle.wa_run.proofs.Depths.{stays_within}
 
 -- the table of ends has an entry for each instruction
-pub ends_long : (code : Sequence) (at : ℕ) (after : List Op) (others : List ℕ) → length others ≡ length after → length (ends_of code at others) ≡ length (flat code after)
+pub ends_long : (code : Sequence) (at : ℕ) (after : List Op) (others : List ℕ) → length others ≡ length after →
+    length (ends_of code at others) ≡ length (flat code after)
 ends_long done at after others e = e
 ends_long (plain instruction rest) at after others e = ap suc (ends_long rest (at + 1) after others e)
 ends_long (block r inside rest) at after others e =
-    ap suc (ends_long inside (at + 1) (op.End ∷ flat rest after) (0 ∷ ends_of rest (behind inside (at + 1) + 1) others) (ap suc (ends_long rest (behind inside (at + 1) + 1) after others e)))
+    ap suc (ends_long inside (at + 1) (op.End ∷ flat rest after) (0 ∷ ends_of rest (behind inside (at + 1) + 1) others)
+    (ap suc (ends_long rest (behind inside (at + 1) + 1) after others e)))
 ends_long (loop r inside rest) at after others e =
-    ap suc (ends_long inside (at + 1) (op.End ∷ flat rest after) (0 ∷ ends_of rest (behind inside (at + 1) + 1) others) (ap suc (ends_long rest (behind inside (at + 1) + 1) after others e)))
+    ap suc (ends_long inside (at + 1) (op.End ∷ flat rest after) (0 ∷ ends_of rest (behind inside (at + 1) + 1) others)
+    (ap suc (ends_long rest (behind inside (at + 1) + 1) after others e)))
 ends_long (if_then r inside rest) at after others e =
-    ap suc (ends_long inside (at + 1) (op.End ∷ flat rest after) (0 ∷ ends_of rest (behind inside (at + 1) + 1) others) (ap suc (ends_long rest (behind inside (at + 1) + 1) after others e)))
+    ap suc (ends_long inside (at + 1) (op.End ∷ flat rest after) (0 ∷ ends_of rest (behind inside (at + 1) + 1) others)
+    (ap suc (ends_long rest (behind inside (at + 1) + 1) after others e)))
 ends_long (if_else r one other rest) at after others e =
     let middle : ℕ = behind one (at + 1) + 1 in
     let last : ℕ = behind other middle + 1 in
     let more : List ℕ = 0 ∷ ends_of rest last others in
-    ap suc (ends_long one (at + 1) (op.Else ∷ flat other (op.End ∷ flat rest after)) (behind other middle ∷ ends_of other middle more)
+    ap suc (ends_long one (at + 1) (op.Else ∷ flat other (op.End ∷ flat rest after))
+    (behind other middle ∷ ends_of other middle more)
     (ap suc (ends_long other middle (op.End ∷ flat rest after) more (ap suc (ends_long rest last after others e)))))
 
-pub paired : (f : Function) (ops : List Op) (ends : List ℕ) (calls : List CallNo) (ready : Ready) → CanRun f ops ends calls ready → length ends ≡ length ops
-paired f ops ends calls ready r = ap length r.ends_are ∙ ends_long f.code 0 (op.End ∷ []) (0 ∷ []) refl ∙ sym (ap length r.reads.instructions)
+pub paired : (f : Function) (ops : List Op) (ends : List ℕ) (calls : List CallNo) (ready : Ready) →
+    CanRun f ops ends calls ready → length ends ≡ length ops
+paired f ops ends calls ready r =
+    ap length r.ends_are ∙ ends_long f.code 0 (op.End ∷ []) (0 ∷ []) refl ∙ sym (ap length r.reads.instructions)
 
 -- no id was passed before the first turn
 pub none_at_first : (id : ℕ) → 0 ≡ passes_of (first_counter ∷ []) id
@@ -56,7 +64,9 @@ pub record Shows (running : Running) (ready : Ready) : Type 0 where
   pub labels_room : running.labels.room ≡ ready.labels_room
   pub guards_room : running.guards.room ≡ ready.guards_room
 
-pub stands_first : {S : Type 0} (meaning : HostMeaning S) (f : Function) (ops : List Op) (ends : List ℕ) (calls : List CallNo) (ready : Ready) (running : Running) (host : S) → CanRun f ops ends calls ready → Shows running ready →
+pub stands_first : {S : Type 0} (meaning : HostMeaning S) (f : Function) (ops : List Op) (ends : List ℕ)
+    (calls : List CallNo) (ready : Ready) (running : Running) (host : S) → CanRun f ops ends calls ready →
+    Shows running ready →
     Is ops ends (first_of meaning f ready host) running
 stands_first meaning f ops ends calls ready running host r s =
     let region : Region = record { kind = body; result = f.context.result; operands = []; rest = f.code } in
@@ -93,14 +103,20 @@ stands_first meaning f ops ends calls ready running host r s =
       guards = λ id. none_at_first id ∙ ap (λ counters. passes_of counters id) (sym s.fresh.guards);
     }
 
-pub within_law : {S : Type 0} (meaning : HostMeaning S) (f : Function) (ops : List Op) (ends : List ℕ) (calls : List CallNo) (ready : Ready) (host : S) → WithinBound S → CanRun f ops ends calls ready →
+pub within_law : {S : Type 0} (meaning : HostMeaning S) (f : Function) (ops : List Op) (ends : List ℕ)
+    (calls : List CallNo) (ready : Ready) (host : S) → WithinBound S → CanRun f ops ends calls ready →
     EndsWithin (world_of meaning f) (bound_at 1 f.code) (first_of meaning f ready host)
-within_law meaning f ops ends calls ready host law r = law (world_of meaning f) f.code f.locals f.globals ready.memory host r.locals_typed r.globals_typed r.result r.typed r.guarded
+within_law meaning f ops ends calls ready host law r =
+    law (world_of meaning f) f.code f.locals f.globals ready.memory host r.locals_typed r.globals_typed r.result r.typed
+    r.guarded
 
-pub can_end : {S : Type 0} (meaning : HostMeaning S) (f : Function) (ops : List Op) (ends : List ℕ) (calls : List CallNo) (ready : Ready) (running : Running) (host : S) → WithinBound S → CanRun f ops ends calls ready → Shows running ready →
+pub can_end : {S : Type 0} (meaning : HostMeaning S) (f : Function) (ops : List Op) (ends : List ℕ)
+    (calls : List CallNo) (ready : Ready) (running : Running) (host : S) → WithinBound S →
+    CanRun f ops ends calls ready → Shows running ready →
     CanEnd meaning ops ends calls running host
 can_end meaning f ops ends calls ready running host law r s =
-    let w : EndsWithin (world_of meaning f) (bound_at 1 f.code) (first_of meaning f ready host) = within_law meaning f ops ends calls ready host law r in
+    let w : EndsWithin (world_of meaning f) (bound_at 1 f.code) (first_of meaning f ready host) =
+    within_law meaning f ops ends calls ready host law r in
     record {
       world = world_of meaning f;
       c = first_of meaning f ready host;
@@ -113,23 +129,35 @@ can_end meaning f ops ends calls ready running host law r s =
       ends_so = w.ends;
       countable = omega (arith, w.within, r.countable);
       most = body_depth f.context f.code;
-      stays = stays_within (world_of meaning f) f.code f.locals f.globals ready.memory host r.locals_typed r.globals_typed r.result r.typed r.guarded;
+      stays =
+          stays_within (world_of meaning f) f.code f.locals f.globals ready.memory host r.locals_typed r.globals_typed
+          r.result r.typed r.guarded;
       words_room = omega (arith, r.words_room, s.words_room);
       labels_room = omega (arith, r.labels_room, s.labels_room);
       guards_room = omega (arith, w.within, r.guards_room, s.guards_room, ap length s.fresh.guards);
     }
 
-pub ends_as : {S : Type 0} (meaning : HostMeaning S) (f : Function) (ops : List Op) (ends : List ℕ) (calls : List CallNo) (ready : Ready) (running : Running) (before : S) (stopped : Stopped) (new : Running) (after : S) →
-    WithinBound S → CanRun f ops ends calls ready → Shows running ready → Stops meaning ops ends calls running before stopped new after →
+pub ends_as : {S : Type 0} (meaning : HostMeaning S) (f : Function) (ops : List Op) (ends : List ℕ)
+    (calls : List CallNo) (ready : Ready) (running : Running) (before : S) (stopped : Stopped) (new : Running)
+    (after : S) →
+    WithinBound S → CanRun f ops ends calls ready → Shows running ready →
+    Stops meaning ops ends calls running before stopped new after →
     EndsSo meaning f ready before stopped.count (outcome_of stopped.stop new.store.memory) after
 ends_as meaning f ops ends calls ready running before stopped new after law r s stops =
-    let w : EndsWithin (world_of meaning f) (bound_at 1 f.code) (first_of meaning f ready before) = within_law meaning f ops ends calls ready before law r in
+    let w : EndsWithin (world_of meaning f) (bound_at 1 f.code) (first_of meaning f ready before) =
+    within_law meaning f ops ends calls ready before law r in
     let e : StopsAs w.steps w.outcome w.last stopped new after =
-    stops (world_of meaning f) (first_of meaning f ready before) w.steps w.outcome w.last (record { host_is = refl; calls_are = r.calls_are }) refl (stands_first meaning f ops ends calls ready running before r s) w.ends in
+    stops (world_of meaning f) (first_of meaning f ready before) w.steps w.outcome w.last
+    (record { host_is = refl; calls_are = r.calls_are }) refl
+    (stands_first meaning f ops ends calls ready running before r s) w.ends in
     record {
       last = w.last;
-      ends_so = subst (λ n. Ends (world_of meaning f) n (first_of meaning f ready before) (outcome_of stopped.stop new.store.memory) w.last) (sym e.count)
-          (subst (λ outcome. Ends (world_of meaning f) w.steps (first_of meaning f ready before) outcome w.last) e.outcome_is w.ends);
+      ends_so =
+          subst (λ n.
+          Ends (world_of meaning f) n (first_of meaning f ready before) (outcome_of stopped.stop new.store.memory)
+          w.last) (sym e.count)
+          (subst (λ outcome. Ends (world_of meaning f) w.steps (first_of meaning f ready before) outcome w.last)
+          e.outcome_is w.ends);
       host = e.host;
       within = subst (λ n. n ≤ bound_at 1 f.code) (sym e.count) w.within;
     }

@@ -15,5 +15,6 @@ taken_twice (suc k) (suc n) zero xs e = absurd (omega (arith, e))
 taken_twice (suc k) (suc n) (suc m) [] e = refl
 taken_twice (suc k) (suc n) (suc m) (x ∷ xs) e = ap (λ ys. x ∷ ys) (taken_twice k n m xs (omega (arith, e)))
 
-pub text_cut : (memory : List ℕ) (from size count : ℕ) → count ≡ min size 256 → take count (drop from memory) ≡ text_of memory from size
+pub text_cut : (memory : List ℕ) (from size count : ℕ) → count ≡ min size 256 →
+    take count (drop from memory) ≡ text_of memory from size
 text_cut memory from size count e = taken_twice count size 256 (drop from memory) e

@@ -9,8 +9,10 @@ use Rattle.wa_run.specs.Flat.{words_of, all_words, AllValues}
 use Rattle.wa_run.specs.Room.{Words}
 use Rattle.wa_run.specs.declared.store.Store.{Store}
 
--- the store of a configuration with these operands in the innermost region, these regions around it, these variables and this memory
-pub record Holds (around : List Region) (operands locals globals : List Value) (memory : List ℕ) (store : Store) : Type 0 where
+-- the store of a configuration with these operands in the innermost region, these regions around it, these variables
+-- and this memory
+pub record Holds (around : List Region) (operands locals globals : List Value) (memory : List ℕ)
+    (store : Store) : Type 0 where
   pub words : store.words.items ≡ words_of operands ++ all_words around
   pub operands_fit : AllValues operands
   pub locals_are : store.locals.items ≡ words_of locals
@@ -53,7 +55,8 @@ pub record Meets (S : Type 0) (instruction : Op) (store : Store) : Type 0 where
   pub sound : IsNoFault (act world instruction region around operands c)
 
 -- the run goes on with this store; the guards and the host are as they were
-pub record GoesOn {S : Type 0} (step : Step S) (region : Region) (around : List Region) (c : Configuration S) (store : Store) : Type 0 where
+pub record GoesOn {S : Type 0} (step : Step S) (region : Region) (around : List Region) (c : Configuration S)
+    (store : Store) : Type 0 where
   pub operands : List Value
   pub after : Configuration S
   pub step_is : step ≡ onward region around operands after
@@ -65,14 +68,16 @@ pub record GoesOn {S : Type 0} (step : Step S) (region : Region) (around : List 
 abbrev pub Acts : (S : Type 0) → Op → Store → Store → Type 0
 Acts S instruction old new =
     (world : World S) (region : Region) (around : List Region) (operands : List Value) (c : Configuration S) →
-    Holds around operands c.locals c.globals c.memory old → IsNoFault (act world instruction region around operands c) → GoesOn (act world instruction region around operands c) region around c new
+    Holds around operands c.locals c.globals c.memory old → IsNoFault (act world instruction region around operands c) →
+    GoesOn (act world instruction region around operands c) region around c new
 
 -- it gives the store after, or traps
 abbrev pub ActsOr : (S : Type 0) → Op → Store → Option Trap → Store → Type 0
 ActsOr S instruction old None new = Acts S instruction old new
 ActsOr S instruction old (Some cause) new =
     (world : World S) (region : Region) (around : List Region) (operands : List Value) (c : Configuration S) →
-    Holds around operands c.locals c.globals c.memory old → IsNoFault (act world instruction region around operands c) → act world instruction region around operands c ≡ ended (Trapped cause) c
+    Holds around operands c.locals c.globals c.memory old → IsNoFault (act world instruction region around operands c) →
+    act world instruction region around operands c ≡ ended (Trapped cause) c
 
 -- at most one word more, and no less room
 pub record Grows (old new : Words) : Type 0 where

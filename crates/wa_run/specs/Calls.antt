@@ -36,13 +36,17 @@ pub record CanCall (S : Type 0) (callee : Callee) (function : ℕ) (old : Runnin
 abbrev pub CallsIt : (S : Type 0) → Callee → ℕ → Running → Option Stop → Running → Type 0
 CallsIt S callee function old found new =
     (world : World S) (c : Configuration S) (ops : List Op) (ends : List ℕ) → Is ops ends c old →
-    slice_get ops old.at ≡ Some (Call function) → slice_get world.context.calls function ≡ Some callee → IsNoFault (step world c) → Follows ops ends (step world c) found new c.host
+    slice_get ops old.at ≡ Some (Call function) → slice_get world.context.calls function ≡ Some callee →
+    IsNoFault (step world c) → Follows ops ends (step world c) found new c.host
 
--- in each such configuration over a host of this meaning and state, the turn is the machine's step, and the host's state is that after it
+-- in each such configuration over a host of this meaning and state, the turn is the machine's step, and the host's
+-- state is that after it
 abbrev pub Asks : (S : Type 0) → HostMeaning S → Callee → ℕ → Running → S → Running → S → Type 0
 Asks S meaning callee function old before new after =
-    (world : World S) (c : Configuration S) (ops : List Op) (ends : List ℕ) → world.host ≡ meaning → c.host ≡ before → Is ops ends c old →
-    slice_get ops old.at ≡ Some (Call function) → slice_get world.context.calls function ≡ Some callee → IsNoFault (step world c) → Follows ops ends (step world c) None new after
+    (world : World S) (c : Configuration S) (ops : List Op) (ends : List ℕ) → world.host ≡ meaning → c.host ≡ before →
+    Is ops ends c old →
+    slice_get ops old.at ≡ Some (Call function) → slice_get world.context.calls function ≡ Some callee →
+    IsNoFault (step world c) → Follows ops ends (step world c) None new after
 
 -- what stays the same in a run over a host of this meaning, in which code calls functions by these rows
 pub record IsIn {S : Type 0} (meaning : HostMeaning S) (calls : List CallNo) (world : World S) : Type 0 where
@@ -57,7 +61,10 @@ pub record CanGo (S : Type 0) (ops : List Op) (ends : List ℕ) (calls : List Ca
   pub is : Is ops ends c old
   pub sound : IsNoFault (step world c)
 
--- in each configuration where the run stands over a host of this state, the turn is the machine's step, and the host's state is that after it
-abbrev pub Goes : (S : Type 0) → HostMeaning S → List CallNo → List Op → List ℕ → Running → S → Option Stop → Running → S → Type 0
+-- in each configuration where the run stands over a host of this state, the turn is the machine's step, and the host's
+-- state is that after it
+abbrev pub Goes : (S : Type 0) → HostMeaning S → List CallNo → List Op → List ℕ → Running → S → Option Stop → Running →
+    S → Type 0
 Goes S meaning calls ops ends old before found new after =
-    (world : World S) (c : Configuration S) → IsIn meaning calls world → c.host ≡ before → Is ops ends c old → IsNoFault (step world c) → Follows ops ends (step world c) found new after
+    (world : World S) (c : Configuration S) → IsIn meaning calls world → c.host ≡ before → Is ops ends c old →
+    IsNoFault (step world c) → Follows ops ends (step world c) found new after

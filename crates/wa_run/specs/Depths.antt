@@ -19,4 +19,5 @@ Leads {S} world (suc more) c later = (d : Configuration S) × (step world c ≡ 
 
 -- each configuration of a run from here on is within
 abbrev pub StaysWithin : {S : Type 0} → World S → Depth → Configuration S → Type 0
-StaysWithin {S} world most c = (count : ℕ) (later : Configuration S) → Leads world count c later → IsWithin most (depth_of later.regions)
+StaysWithin {S} world most c =
+    (count : ℕ) (later : Configuration S) → Leads world count c later → IsWithin most (depth_of later.regions)

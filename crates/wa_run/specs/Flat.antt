@@ -1,5 +1,6 @@
 -- Flat code under way, against the machine's configuration: where each open region stands, and what its label says.
-use Rattle.std.specs.Prelude.{ℕ, ◌≡◌, ◌+◌, ◌^◌, ◌<◌, ◌⊎◌, List, [], ◌∷◌, ◌++◌, length, take, drop, Option, Some, None, Bool, true, false}
+use Rattle.std.specs.Prelude.{ℕ, ◌≡◌, ◌+◌, ◌^◌, ◌<◌, ◌⊎◌, List, [], ◌∷◌, ◌++◌, length, take, drop, Option, Some, None}
+use Rattle.std.specs.Prelude.{Bool, true, false}
 use Rattle.wa_ops.specs.declared.op.Op.{Op}
 use Rattle.wa_ops.specs.declared.op.Op.TheVariants.{Else, End}
 use Rattle.wa_ops.specs.declared.op.ValueType.{ValueType}
@@ -33,7 +34,8 @@ abbrev pub IsMarker : Op → Type 0
 IsMarker instruction = (instruction ≡ End) ⊎ (instruction ≡ Else)
 
 -- this sequence stands at this place of the code, with these instructions and entries of the table of ends behind it
-pub record Stands (ops : List Op) (ends : List ℕ) (code : Sequence) (at : ℕ) (more : List Op) (others : List ℕ) : Type 0 where
+pub record Stands (ops : List Op) (ends : List ℕ) (code : Sequence) (at : ℕ) (more : List Op)
+    (others : List ℕ) : Type 0 where
   pub ops_are : drop at ops ≡ flat code more
   pub ends_are : drop at ends ≡ ends_of code at others
 
@@ -58,7 +60,8 @@ has_result None = false
 has_result (Some kind) = true
 
 -- the label of a region with this many words below it
-pub record IsLabelled (ops : List Op) (ends : List ℕ) (kind : Kind) (result : Option ValueType) (below : ℕ) (label : Label) : Type 0 where
+pub record IsLabelled (ops : List Op) (ends : List ℕ) (kind : Kind) (result : Option ValueType) (below : ℕ)
+    (label : Label) : Type 0 where
   pub of_kind : IsOfKind ops ends kind label.place
   pub carries : label.carries ≡ has_result result
   pub height : label.height ≡ below

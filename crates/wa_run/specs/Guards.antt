@@ -1,5 +1,7 @@
--- How often a run passed each guard: counters that are a digital search tree (Coffman and Eve, 1970), the lowest bit of an id first.
-use Rattle.std.specs.Prelude.{ℕ, zero, suc, ◌≡◌, ◌+◌, ◌<◌, ◌==◌, ◌++◌, ◌/◌, ◌%◌, ◌⊎◌, List, [], ◌∷◌, Some, if◌then◌else◌, length, slice_get, slice_set}
+-- How often a run passed each guard: counters that are a digital search tree (Coffman and Eve, 1970), the lowest bit of
+-- an id first.
+use Rattle.std.specs.Prelude.{ℕ, zero, suc, ◌≡◌, ◌+◌, ◌<◌, ◌==◌, ◌++◌, ◌/◌, ◌%◌, ◌⊎◌, List, [], ◌∷◌, Some}
+use Rattle.std.specs.Prelude.{if◌then◌else◌, length, slice_get, slice_set}
 use Rattle.wa_run.specs.declared.counter.Counter.{Counter}
 use Rattle.wa_run.specs.declared.counter.Spot.{Spot}
 
@@ -25,18 +27,23 @@ abbrev pub child : Counter → ℕ → ℕ
 child counter bits = if bits % 2 == 0 then counter.even else counter.odd
 
 abbrev pub with_child : Counter → ℕ → ℕ → Counter
-with_child counter bits place = if bits % 2 == 0 then record counter { even = place } else record counter { odd = place }
+with_child counter bits place =
+    if bits % 2 == 0 then record counter { even = place } else record counter { odd = place }
 
 -- with a counter for this id, which was passed once, behind the one at this spot
 abbrev pub with_counter : List Counter → Spot → Counter → ℕ → List Counter
 with_counter counters spot counter id =
-    slice_set counters spot.place (with_child counter spot.bits (length counters)) ++ record { id = id; passes = 1; even = 0; odd = 0 } ∷ []
+    slice_set counters spot.place (with_child counter spot.bits (length counters)) ++
+    record { id = id; passes = 1; even = 0; odd = 0 } ∷ []
 
--- the search for an id, at this place with these bits left, meets other ids so many times and then the id's counter at that place
+-- the search for an id, at this place with these bits left, meets other ids so many times and then the id's counter at
+-- that place
 abbrev pub Finds : List Counter → ℕ → ℕ → ℕ → ℕ → ℕ → Type 0
-Finds counters id zero place bits found = (place ≡ found) × ((counter : Counter) × (slice_get counters place ≡ Some counter) × (counter.id ≡ id))
+Finds counters id zero place bits found =
+    (place ≡ found) × ((counter : Counter) × (slice_get counters place ≡ Some counter) × (counter.id ≡ id))
 Finds counters id (suc more) place bits found =
-    (counter : Counter) × (slice_get counters place ≡ Some counter) × (counter.id ≡ id → ⊥) × (child counter bits ≡ 0 → ⊥) × Finds counters id more (child counter bits) (bits / 2) found
+    (counter : Counter) × (slice_get counters place ≡ Some counter) × (counter.id ≡ id → ⊥)
+    × (child counter bits ≡ 0 → ⊥) × Finds counters id more (child counter bits) (bits / 2) found
 
 -- nowhere, or further on among so many counters
 abbrev pub IsAhead : ℕ → ℕ → ℕ → Type 0
@@ -45,22 +52,29 @@ IsAhead size place next = (next ≡ 0) ⊎ ((place < next) × (next < size))
 -- each counter is found by its own id, and searches go on towards the end
 pub record IsTree (counters : List Counter) : Type 0 where
   pub some : 0 < length counters
-  pub ahead : (place : ℕ) (counter : Counter) → slice_get counters place ≡ Some counter → IsAhead (length counters) place counter.even × IsAhead (length counters) place counter.odd
-  pub found : (place : ℕ) (counter : Counter) → slice_get counters place ≡ Some counter → (more : ℕ) × Finds counters counter.id more 0 counter.id place
+  pub ahead : (place : ℕ) (counter : Counter) → slice_get counters place ≡ Some counter →
+      IsAhead (length counters) place counter.even × IsAhead (length counters) place counter.odd
+  pub found : (place : ℕ) (counter : Counter) → slice_get counters place ≡ Some counter →
+      (more : ℕ) × Finds counters counter.id more 0 counter.id place
 
 -- these counters have at each place the same id, and go on as those do
 abbrev pub Extends : List Counter → List Counter → Type 0
 Extends counters others =
     (place : ℕ) (counter : Counter) → slice_get counters place ≡ Some counter →
-    (other : Counter) × (slice_get others place ≡ Some other) × (other.id ≡ counter.id) × ((bits : ℕ) → (child counter bits ≡ 0 → ⊥) → child other bits ≡ child counter bits)
+    (other : Counter) × (slice_get others place ≡ Some other) × (other.id ≡ counter.id)
+    × ((bits : ℕ) → (child counter bits ≡ 0 → ⊥) → child other bits ≡ child counter bits)
 
 -- from this place, with these bits left, the search for an id finds each counter that has it
 abbrev pub FindsAll : List Counter → ℕ → ℕ → ℕ → Type 0
-FindsAll counters id place bits = (found : ℕ) (counter : Counter) → slice_get counters found ≡ Some counter → counter.id ≡ id → (more : ℕ) × Finds counters id more place bits found
+FindsAll counters id place bits =
+    (found : ℕ) (counter : Counter) → slice_get counters found ≡ Some counter → counter.id ≡ id →
+    (more : ℕ) × Finds counters id more place bits found
 
 -- the search for an id comes to this place, with these bits left
 abbrev pub ComesTo : List Counter → ℕ → ℕ → ℕ → Type 0
-ComesTo counters id place bits = (others : List Counter) (found more : ℕ) → Extends counters others → Finds others id more place bits found → (steps : ℕ) × Finds others id steps 0 id found
+ComesTo counters id place bits =
+    (others : List Counter) (found more : ℕ) → Extends counters others → Finds others id more place bits found →
+    (steps : ℕ) × Finds others id steps 0 id found
 
 -- where the search for an id ends: at its counter, or where it goes on nowhere
 pub record IsSpot (counters : List Counter) (id : ℕ) (spot : Spot) : Type 0 where

@@ -5,7 +5,8 @@ use Rattle.hk_base.specs.declared.outcome.Outcome.TheVariants.{Accepted, RolledB
 use Rattle.wa_ops.specs.declared.op.Op.{Op}
 use Rattle.wa_ops.specs.declared.op.Op.TheVariants.{If, Else}
 use Rattle.wa_ops.specs.declared.op.ValueType.{ValueType}
-use Rattle.wa_machine.specs.Machine.{Value, Region, Configuration, World, Step, next, ended, fault, text_of, branch, ticked, step}
+use Rattle.wa_machine.specs.Machine.{Value, Region, Configuration, World, Step, next, ended, fault, text_of, branch}
+use Rattle.wa_machine.specs.Machine.{ticked, step}
 use Rattle.wa_run.specs.Acts.{Holds, IsNoFault}
 use Rattle.wa_run.specs.Flat.{AllMark, IsRooted}
 use Rattle.wa_run.specs.Guards.{passes_of}
@@ -42,14 +43,17 @@ abbrev pub Follows : {S : Type 0} → List Op → List ℕ → Step S → Option
 Follows ops ends (next c) None running host = Is ops ends c running × (c.host ≡ host)
 Follows ops ends (next c) (Some found) running host = ⊥
 Follows ops ends (ended outcome c) None running host = ⊥
-Follows ops ends (ended outcome c) (Some found) running host = (outcome ≡ outcome_of found running.store.memory) × (c.host ≡ host) × IsHeld found running.store.memory
+Follows ops ends (ended outcome c) (Some found) running host =
+    (outcome ≡ outcome_of found running.store.memory) × (c.host ≡ host) × IsHeld found running.store.memory
 Follows ops ends fault found running host = ⊥
 
--- in each configuration where the run stands before this instruction, with this entry of the table of ends, the turn is the machine's step
+-- in each configuration where the run stands before this instruction, with this entry of the table of ends, the turn is
+-- the machine's step
 abbrev pub Turns : (S : Type 0) → Op → ℕ → Running → Option Stop → Running → Type 0
 Turns S instruction entry old found new =
     (world : World S) (c : Configuration S) (ops : List Op) (ends : List ℕ) → Is ops ends c old →
-    slice_get ops old.at ≡ Some instruction → slice_get ends old.at ≡ Some entry → IsNoFault (step world c) → Follows ops ends (step world c) found new c.host
+    slice_get ops old.at ≡ Some instruction → slice_get ends old.at ≡ Some entry → IsNoFault (step world c) →
+    Follows ops ends (step world c) found new c.host
 
 -- the machine meets no fault in some such configuration
 pub record CanTurn (S : Type 0) (instruction : Op) (old : Running) : Type 0 where
@@ -62,7 +66,8 @@ pub record CanTurn (S : Type 0) (instruction : Op) (old : Running) : Type 0 wher
   pub sound : IsNoFault (step world c)
 
 -- the regions and the store of a run at which a branch is made
-pub record BeforeBranch {S : Type 0} (ops : List Op) (ends : List ℕ) (region : Region) (around : List Region) (operands : List Value) (c : Configuration S) (old : Running) : Type 0 where
+pub record BeforeBranch {S : Type 0} (ops : List Op) (ends : List ℕ) (region : Region) (around : List Region)
+    (operands : List Value) (c : Configuration S) (old : Running) : Type 0 where
   pub at : ℕ
   pub marks : AllMark ops ends (region ∷ around) at old.labels.items
   pub rooted : IsRooted (region ∷ around)
@@ -72,8 +77,10 @@ pub record BeforeBranch {S : Type 0} (ops : List Op) (ends : List ℕ) (region :
 -- in each such configuration, the turn is the machine's branch
 abbrev pub Branches : (S : Type 0) → ℕ → Running → Option Stop → Running → Type 0
 Branches S label old found new =
-    (count : ℕ) (c : Configuration S) (ops : List Op) (ends : List ℕ) (region : Region) (around : List Region) (operands : List Value) → BeforeBranch ops ends region around operands c old →
-    IsNoFault (branch label (region ∷ around) operands c) → Follows ops ends (ticked count (branch label (region ∷ around) operands c)) found new c.host
+    (count : ℕ) (c : Configuration S) (ops : List Op) (ends : List ℕ) (region : Region) (around : List Region)
+    (operands : List Value) → BeforeBranch ops ends region around operands c old →
+    IsNoFault (branch label (region ∷ around) operands c) →
+    Follows ops ends (ticked count (branch label (region ∷ around) operands c)) found new c.host
 
 -- the machine's branch meets no fault in some such configuration
 pub record CanBranch (S : Type 0) (label : ℕ) (old : Running) : Type 0 where
@@ -86,7 +93,8 @@ pub record CanBranch (S : Type 0) (label : ℕ) (old : Running) : Type 0 where
   pub before : BeforeBranch ops ends region around operands c old
   pub sound : IsNoFault (branch label (region ∷ around) operands c)
 
--- the other arm of an `if` with this entry in the table of ends: where an `else` stands there, by the place of its `end`
+-- the other arm of an `if` with this entry in the table of ends: where an `else` stands there, by the place of its
+-- `end`
 abbrev pub IsArm : List Op → List ℕ → ℕ → Option ℕ → Type 0
 IsArm ops ends entry None = slice_get ops entry ≡ Some Else → ⊥
 IsArm ops ends entry (Some last) = (slice_get ops entry ≡ Some Else) × (slice_get ends entry ≡ Some last)
@@ -95,7 +103,8 @@ IsArm ops ends entry (Some last) = (slice_get ops entry ≡ Some Else) × (slice
 abbrev pub Chooses : (S : Type 0) → Option ValueType → ℕ → Option ℕ → Running → Running → Type 0
 Chooses S carried entry other old new =
     (world : World S) (c : Configuration S) (ops : List Op) (ends : List ℕ) → Is ops ends c old →
-    slice_get ops old.at ≡ Some (If carried) → slice_get ends old.at ≡ Some entry → IsArm ops ends entry other → IsNoFault (step world c) → Follows ops ends (step world c) None new c.host
+    slice_get ops old.at ≡ Some (If carried) → slice_get ends old.at ≡ Some entry → IsArm ops ends entry other →
+    IsNoFault (step world c) → Follows ops ends (step world c) None new c.host
 
 -- at most one item more on each stack, and no less room
 pub record Widens (old new : Running) : Type 0 where

@@ -24,7 +24,8 @@ use Rattle.wa_run.specs.declared.label.Label.{Label}
 use Rattle.wa_run.specs.declared.label.Place.TheVariants as place
 use Rattle.wa_run.specs.declared.running.Running.{Running}
 
--- a run that hasn't begun: its variables as words, its memory, and how many words, labels and counters of guards there is room for
+-- a run that hasn't begun: its variables as words, its memory, and how many words, labels and counters of guards there
+-- is room for
 pub record Ready : Type 0 where
   pub locals : List ℕ
   pub globals : List ℕ
@@ -40,7 +41,8 @@ pub record Function : Type 0 where
   pub locals : List Value
   pub globals : List Value
 
--- the function's flat code, table of ends and rows of calls, which is typed and guarded, with room for its depth and for the passes of guards within its bound
+-- the function's flat code, table of ends and rows of calls, which is typed and guarded, with room for its depth and
+-- for the passes of guards within its bound
 pub record CanRun (f : Function) (ops : List Op) (ends : List ℕ) (calls : List CallNo) (ready : Ready) : Type 0 where
   pub reads : Reads ops f.code
   pub counted : length ops < 2 ^ 32
@@ -70,7 +72,8 @@ abbrev pub first_of : {S : Type 0} → HostMeaning S → Function → Ready → 
 first_of meaning f ready host = start (world_of meaning f) f.code f.locals f.globals ready.memory host
 
 -- the machine's run ends at this step and so, within the bound, and leaves the host in this state
-pub record EndsSo {S : Type 0} (meaning : HostMeaning S) (f : Function) (ready : Ready) (before : S) (count : ℕ) (outcome : Outcome) (after : S) : Type 0 where
+pub record EndsSo {S : Type 0} (meaning : HostMeaning S) (f : Function) (ready : Ready) (before : S) (count : ℕ)
+    (outcome : Outcome) (after : S) : Type 0 where
   pub last : Configuration S
   pub ends_so : Ends (world_of meaning f) count (first_of meaning f ready before) outcome last
   pub host : last.host ≡ after

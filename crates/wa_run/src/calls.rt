@@ -1,5 +1,6 @@
 //! The calls of imports.
-ghost use Rattle.std.specs.Prelude.{ℕ, List, ◌<◌, ◌≡◌, ◌≤◌, ◌^◌, length, slice_get, Some, IfOk, IsErr, IsFalse, IsTrue, OnOk};
+ghost use Rattle.std.specs.Prelude.{ℕ, List, ◌<◌, ◌≡◌, ◌≤◌, ◌^◌, length, slice_get, Some, IfOk, IsErr, IsFalse, IsTrue};
+ghost use Rattle.std.specs.Prelude.{OnOk};
 ghost use Rattle.wa_ops.specs.Callees.{guard, host_call};
 ghost use Rattle.wa_ops.specs.Rows.{rollback_row, row_parameters};
 ghost use Rattle.wa_ops.specs.declared.op.Op.{Op};
@@ -26,12 +27,15 @@ impl Running {
         host: &mut H,
     ) -> Result<Option<Stop>, NoMemory>
         requires rows { AreRows calls.now }
-        requires meets { (ops : List Op) × (ends : List ℕ) × (slice_get ops self.old.at ≡ Some (Op.Call function)) × CanGo H ops ends calls.now self.old }
+        requires meets { (ops : List Op) × (ends : List ℕ) × (slice_get ops self.old.at ≡ Some (Op.Call function))
+            × CanGo H ops ends calls.now self.old }
         requires place { self.old.at < 2 ^ 63 }
         requires words_room { length self.old.store.words.items < self.old.store.words.room }
         requires guards_room { length self.old.guards.items < self.old.guards.room }
-        ensures goes { IfOk result (λ found. (ops : List Op) (ends : List ℕ) → slice_get ops self.old.at ≡ Some (Op.Call function) →
-            Goes H (meaning_of H.answer H.memory_after H.state_after) calls.now ops ends self.old host.old found self.new host.new) }
+        ensures goes { IfOk result
+            (λ found. (ops : List Op) (ends : List ℕ) → slice_get ops self.old.at ≡ Some (Op.Call function) →
+            Goes H (meaning_of H.answer H.memory_after H.state_after) calls.now ops ends self.old host.old found
+            self.new host.new) }
         ensures grows { OnOk result (Widens self.old self.new) }
         ensures told { H.may_want host.new ≡ H.may_want host.old }
         ensures wants { IsErr result → IsTrue (H.may_want host.old) }
@@ -109,7 +113,8 @@ impl Running {
         requires meets { CanCall H (host_call number.0 (row_parameters number.0)) function self.old }
         requires place { self.old.at < 2 ^ 63 }
         requires words_room { length self.old.store.words.items < self.old.store.words.room }
-        ensures asks { OnOk result (Asks H (meaning_of H.answer H.memory_after H.state_after) (host_call number.0 (row_parameters number.0)) function self.old host.old self.new host.new) }
+        ensures asks { OnOk result (Asks H (meaning_of H.answer H.memory_after H.state_after)
+            (host_call number.0 (row_parameters number.0)) function self.old host.old self.new host.new) }
         ensures grows { OnOk result (Widens self.old self.new) }
         ensures told { H.may_want host.new ≡ H.may_want host.old }
         ensures wants { IsErr result → IsTrue (H.may_want host.old) }

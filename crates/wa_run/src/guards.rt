@@ -1,5 +1,6 @@
 //! How often a run passed each guard.
-ghost use Rattle.std.specs.Prelude.{ℕ, ◌≡◌, ◌<◌, ◌≤◌, ◌+◌, ◌^◌, ◌∷◌, [], Some, length, nat_lt, slice_get, vec_capacity, IfOk, IsTrue};
+ghost use Rattle.std.specs.Prelude.{ℕ, ◌≡◌, ◌<◌, ◌≤◌, ◌+◌, ◌^◌, ◌∷◌, [], Some, length, nat_lt, slice_get, vec_capacity};
+ghost use Rattle.std.specs.Prelude.{IfOk, IsTrue};
 ghost use Rattle.wa_run.specs.declared.counter.Counter.{Counter};
 ghost use Rattle.wa_machine.specs.Machine.{counted};
 ghost use Rattle.wa_run.specs.Guards.{first_counter, passes_of, with_counter};
@@ -52,7 +53,8 @@ impl Guards {
     pub(crate) fn pass(&mut self, id: u32, limit: u32) -> bool
         requires room { length self.old.items < self.old.room }
         ensures passes { result ≡ nat_lt (passes_of self.old.items id) limit }
-        ensures counts { IsTrue result → (other : ℕ) → passes_of self.new.items other ≡ counted id (passes_of self.old.items) other }
+        ensures counts { IsTrue result → (other : ℕ) →
+            passes_of self.new.items other ≡ counted id (passes_of self.old.items) other }
         ensures items { length self.new.items ≤ length self.old.items + 1 }
         ensures room { self.new.room ≡ self.old.room }
     {
@@ -81,7 +83,8 @@ fn add(counters: &mut Vec<Counter>, spot: Spot, id: u32)
     requires place { spot.place < length counters.old.items }
     requires room { length counters.old.items < vec_capacity counters.old }
     requires few { length counters.old.items < 2 ^ 32 }
-    ensures items { (counter : Counter) → slice_get counters.old.items spot.place ≡ Some counter → counters.new.items ≡ with_counter counters.old.items spot counter id }
+    ensures items { (counter : Counter) → slice_get counters.old.items spot.place ≡ Some counter →
+        counters.new.items ≡ with_counter counters.old.items spot counter id }
     ensures room { vec_capacity counters.old ≤ vec_capacity counters.new }
 {
     let place = counters.len() as u32;

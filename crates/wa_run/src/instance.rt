@@ -4,7 +4,8 @@ ghost use Rattle.wa_machine.specs.Law.{EndsWithin};
 ghost use Rattle.wa_ops.specs.Bound.{bound_at};
 ghost use Rattle.wa_ops.specs.Soundness.{Each};
 ghost use Rattle.wa_machine.specs.Starts.{first_memory, meaning_of};
-ghost use Rattle.wa_run.specs.Starts.{CanRun, EndsSo, Function, HasWidth, first_globals, first_locals, first_of, world_of};
+ghost use Rattle.wa_run.specs.Starts.{CanRun, EndsSo, Function, HasWidth, first_globals, first_locals, first_of};
+ghost use Rattle.wa_run.specs.Starts.{world_of};
 
 use crate::ended::{Ended, outcome};
 use crate::first_values::{first_globals, first_locals, first_memory};
@@ -48,8 +49,10 @@ impl Model for Instance {
 }
 
 impl Instance {
-    /// Takes all memory of a run of a function with this argument and so many other locals, over the globals of its module
-    /// and a memory of so many pages with its data: for code of this depth, in which guards are passed `bound` times at most.
+    /// Takes all memory of a run of a function with this argument and so many other locals, over the globals of its
+    /// module
+    /// and a memory of so many pages with its data: for code of this depth, in which guards are passed `bound` times at
+    /// most.
     pub fn new(
         alloc: Global,
         argument: u32,
@@ -103,9 +106,11 @@ impl Instance {
     ) -> Result<Ended, NoMemory>
         requires can { (f : Function) × CanRun f ops.now ends.now calls.now self }
         ensures ends { IfOk result (λ ended. (f : Function) → CanRun f ops.now ends.now calls.now self →
-            EndsSo (meaning_of H.answer H.memory_after H.state_after) f self host.old ended.count ended.outcome host.new) }
+            EndsSo (meaning_of H.answer H.memory_after H.state_after) f self host.old ended.count ended.outcome
+            host.new) }
         ensures within { (f : Function) → CanRun f ops.now ends.now calls.now self →
-            EndsWithin (world_of (meaning_of H.answer H.memory_after H.state_after) f) (bound_at 1 f.code) (first_of (meaning_of H.answer H.memory_after H.state_after) f self host.old) }
+            EndsWithin (world_of (meaning_of H.answer H.memory_after H.state_after) f) (bound_at 1 f.code)
+            (first_of (meaning_of H.answer H.memory_after H.state_after) f self host.old) }
         ensures told { H.may_want host.new ≡ H.may_want host.old }
         ensures wants { IsErr result → IsTrue (H.may_want host.old) }
     {

@@ -104,7 +104,8 @@ impl Store {
 fn read_as(opcode: u8, number: u64) -> u64
     requires sound { IsTrue (is_load opcode) }
     requires width { number < 256 ^ load_width opcode }
-    ensures number { result ≡ (if is_signed_load opcode then extended (load_width opcode) (load_type opcode) number else number) }
+    ensures number { result
+        ≡ (if is_signed_load opcode then extended (load_width opcode) (load_type opcode) number else number) }
     ensures fits { (load_type opcode ≡ I64 → ⊥) → result < 2 ^ 32 }
 {
     match opcode {

@@ -109,7 +109,8 @@ impl Running {
     #[inline(always)]
     pub(crate) fn end<S>(&mut self) -> Option<Stop>
         requires turns { (instruction : Op) × IsMarker instruction × CanTurn S instruction self.old }
-        ensures turns { (instruction : Op) → IsMarker instruction → (entry : ℕ) → Turns S instruction entry self.old result self.new }
+        ensures turns { (instruction : Op) → IsMarker instruction → (entry : ℕ) →
+            Turns S instruction entry self.old result self.new }
         ensures grows { Widens self.old self.new }
     {
         let label = self.labels.close();

@@ -35,8 +35,11 @@ impl Running {
         requires paired { length ends.now ≡ length ops.now }
         requires sound { Each IsSoundOp ops.now }
         requires rows { AreRows calls.now }
-        requires can { CanEnd (meaning_of H.answer H.memory_after H.state_after) ops.now ends.now calls.now self.old host.old }
-        ensures stops { IfOk result (λ stopped. Stops (meaning_of H.answer H.memory_after H.state_after) ops.now ends.now calls.now self.old host.old stopped self.new host.new) }
+        requires can { CanEnd (meaning_of H.answer H.memory_after H.state_after) ops.now ends.now calls.now self.old
+            host.old }
+        ensures stops { IfOk result (λ stopped.
+            Stops (meaning_of H.answer H.memory_after H.state_after) ops.now ends.now calls.now self.old host.old
+            stopped self.new host.new) }
         ensures held { IfOk result (λ stopped. IsHeld stopped.stop self.new.store.memory) }
         ensures told { H.may_want host.new ≡ H.may_want host.old }
         ensures wants { IsErr result → IsTrue (H.may_want host.old) }

@@ -32,7 +32,9 @@ impl Running {
         requires words_room { length self.old.store.words.items < self.old.store.words.room }
         requires labels_room { length self.old.labels.items < self.old.labels.room }
         requires guards_room { length self.old.guards.items < self.old.guards.room }
-        ensures goes { IfOk result (λ found. Goes H (meaning_of H.answer H.memory_after H.state_after) calls.now ops.now ends.now self.old host.old found self.new host.new) }
+        ensures goes { IfOk result (λ found.
+            Goes H (meaning_of H.answer H.memory_after H.state_after) calls.now ops.now ends.now self.old host.old found
+            self.new host.new) }
         ensures grows { OnOk result (Widens self.old self.new) }
         ensures told { H.may_want host.new ≡ H.may_want host.old }
         ensures wants { IsErr result → IsTrue (H.may_want host.old) }

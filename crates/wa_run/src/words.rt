@@ -1,5 +1,6 @@
 //! The operands of a run as untyped words.
-ghost use Rattle.std.specs.Prelude.{ℕ, List, ◌≡◌, ◌+◌, ◌-◌, ◌∷◌, ◌++◌, ◌<◌, ◌≤◌, [], length, take, drop, reverse, if◌then◌else◌, IfOk};
+ghost use Rattle.std.specs.Prelude.{ℕ, List, ◌≡◌, ◌+◌, ◌-◌, ◌∷◌, ◌++◌, ◌<◌, ◌≤◌, [], length, take, drop, reverse};
+ghost use Rattle.std.specs.Prelude.{if◌then◌else◌, IfOk};
 ghost use Rattle.wa_run.specs.Flat.{IsNarrow, carried_words};
 
 use std::alloc::Global;
@@ -106,7 +107,8 @@ impl Words {
     pub(crate) fn carry(&mut self, height: usize, carries: bool)
         requires height { (if carries then 1 else 0) + height ≤ length self.old.items }
         requires room { length self.old.items ≤ self.old.room }
-        ensures items { self.new.items ≡ carried_words carries self.old.items ++ drop (length self.old.items - height) self.old.items }
+        ensures items { self.new.items
+            ≡ carried_words carries self.old.items ++ drop (length self.old.items - height) self.old.items }
         ensures room { self.old.room ≤ self.new.room }
     {
         if carries {

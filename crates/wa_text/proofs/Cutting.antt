@@ -1,5 +1,6 @@
 -- The first line of bytes.
-use Rattle.std.proofs.Common.{◌≡◌, ℕ, suc, ◌+◌, ◌==◌, Bool, true, false, not, cond, nat_lt, if◌then◌else◌, List, [], ◌∷◌, length, take, drop, Option, Some, None, refl, sym, ap, subst, arith}
+use Rattle.std.proofs.Common.{◌≡◌, ℕ, suc, ◌+◌, ◌==◌, Bool, true, false, not, cond, nat_lt, if◌then◌else◌, List, []}
+use Rattle.std.proofs.Common.{◌∷◌, length, take, drop, Option, Some, None, refl, sym, ap, subst, arith}
 use Rattle.std.proofs.lemmas.Bool.{lt-ltb}
 use Rattle.std.proofs.lemmas.Bool.Decides.{nat_tests}
 use Rattle.std.specs.List.{position, position_or_len}
@@ -27,8 +28,11 @@ one_more true x xs n h =
     subst (λ t. Cuts (whole [] (cut xs)) (x ∷ xs) (cond t (Some 0) None)) (sym some) refl
 one_more false x xs n h =
     let order : suc n ≡ 1 + n = omega arith in
-    let test : nat_lt n (length xs) ≡ nat_lt (suc n) (length (x ∷ xs)) = sym (same_test (nat_lt n (length xs)) n (length xs) refl) in
-    let below = subst (λ t. Cuts (onto x (cut xs)) (x ∷ xs) (cond t (Some (suc n)) None)) test (deeper (nat_lt n (length xs)) x xs n h) in
+    let test : nat_lt n (length xs) ≡ nat_lt (suc n) (length (x ∷ xs)) =
+    sym (same_test (nat_lt n (length xs)) n (length xs) refl) in
+    let below =
+    subst (λ t. Cuts (onto x (cut xs)) (x ∷ xs) (cond t (Some (suc n)) None)) test
+    (deeper (nat_lt n (length xs)) x xs n h) in
     subst (λ k. Cuts (onto x (cut xs)) (x ∷ xs) (cond (nat_lt k (length (x ∷ xs))) (Some k) None)) order below
 
 pub cut_at : (bytes : List ℕ) → Cuts (cut bytes) bytes (position (λ byte. byte == 10) bytes)

@@ -1,12 +1,15 @@
 -- What a line adds to a module fits, and how many bytes spell it.
-use Rattle.std.proofs.Common.{◌≡◌, ℕ, zero, suc, ◌+◌, ◌^◌, ◌≤◌, nat_le, nat_lt, Bool, true, false, List, [], ◌∷◌, ◌++◌, length, codes, flat_map, Some, option_map, pos, negsuc, ◌-◌, refl, sym, ap, subst, append_assoc, length-append, arith}
+use Rattle.std.proofs.Common.{◌≡◌, ℕ, zero, suc, ◌+◌, ◌^◌, ◌≤◌, nat_le, nat_lt, Bool, true, false, List, [], ◌∷◌, ◌++◌}
+use Rattle.std.proofs.Common.{length, codes, flat_map, Some, option_map, pos, negsuc, ◌-◌, refl, sym, ap, subst}
+use Rattle.std.proofs.Common.{append_assoc, length-append, arith}
 use Rattle.std.proofs.lemmas.Bool.{and_parts, leb-true, ltb-true, ltb-false}
 use Rattle.std.specs.List.{list_all}
 use Rattle.std.specs.Option.{option_map_or}
 use Rattle.std.specs.Prelude.{slice_get}
 use mir.Val.{sel}
 use Rattle.wa_ops.specs.Rows.{ApiCall, api_calls, row_parameters}
-use Rattle.wa_ops.specs.Sequences.{Nesting, nesting, opens_block, opens_loop, opens_if, turns, closes, stands, done, plain}
+use Rattle.wa_ops.specs.Sequences.{Nesting, nesting, opens_block, opens_loop, opens_if, turns, closes, stands, done}
+use Rattle.wa_ops.specs.Sequences.{plain}
 use Rattle.wa_ops.specs.Soundness.{Each}
 use Rattle.wa_ops.specs.declared.modules.FuncType.{FuncType}
 use Rattle.wa_ops.specs.declared.modules.Module.{Module}
@@ -36,7 +39,8 @@ each_more P (y ∷ ys) x e p = (e.0, each_more P ys x e.1 p)
 
 -- ---- code whose regions are open
 
-outer : (n : Nesting) (regions now : List Bool) → opened_by n regions ≡ Some now → opened_by n (regions ++ false ∷ []) ≡ Some (now ++ false ∷ [])
+outer : (n : Nesting) (regions now : List Bool) → opened_by n regions ≡ Some now →
+    opened_by n (regions ++ false ∷ []) ≡ Some (now ++ false ∷ [])
 outer (opens_block result) regions now e = ap (option_map (λ r. r ++ false ∷ [])) e
 outer (opens_loop result) regions now e = ap (option_map (λ r. r ++ false ∷ [])) e
 outer (opens_if result) regions now e = ap (option_map (λ r. r ++ false ∷ [])) e
@@ -47,17 +51,22 @@ outer closes [] now e = absurd (cc e)
 outer closes (may ∷ around) now e = ap (option_map (λ r. r ++ false ∷ [])) e
 outer stands regions now e = ap (option_map (λ r. r ++ false ∷ [])) e
 
-next_closes : (instruction : Op) (regions now : List Bool) (after : List Op) → opened instruction regions ≡ Some now → Closes after (Some (now ++ false ∷ [])) → Closes (instruction ∷ after) (Some (regions ++ false ∷ []))
+next_closes : (instruction : Op) (regions now : List Bool) (after : List Op) → opened instruction regions ≡ Some now →
+    Closes after (Some (now ++ false ∷ [])) → Closes (instruction ∷ after) (Some (regions ++ false ∷ []))
 next_closes instruction [] now after e h = subst (Closes after) (sym (outer (nesting instruction) [] now e)) h
-next_closes instruction (may ∷ around) now after e h = subst (Closes after) (sym (outer (nesting instruction) (may ∷ around) now e)) h
+next_closes instruction (may ∷ around) now after e h =
+    subst (Closes after) (sym (outer (nesting instruction) (may ∷ around) now e)) h
 
 -- what closes these regions and the function behind these instructions closes the function
 abbrev pub Opens : List Op → List Bool → Type 0
-Opens ops regions = (after : List Op) → Closes after (Some (regions ++ false ∷ [])) → Closes (ops ++ after) (Some (false ∷ []))
+Opens ops regions =
+    (after : List Op) → Closes after (Some (regions ++ false ∷ [])) → Closes (ops ++ after) (Some (false ∷ []))
 
-pub opens_more : (ops : List Op) (regions now : List Bool) (instruction : Op) → Opens ops regions → opened instruction regions ≡ Some now → Opens (ops ++ instruction ∷ []) now
+pub opens_more : (ops : List Op) (regions now : List Bool) (instruction : Op) → Opens ops regions →
+    opened instruction regions ≡ Some now → Opens (ops ++ instruction ∷ []) now
 opens_more ops regions now instruction h e after c =
-    subst (λ os. Closes os (Some (false ∷ []))) (sym (append_assoc ops (instruction ∷ []) after)) (h (instruction ∷ after) (next_closes instruction regions now after e c))
+    subst (λ os. Closes os (Some (false ∷ []))) (sym (append_assoc ops (instruction ∷ []) after))
+    (h (instruction ∷ after) (next_closes instruction regions now after e c))
 
 -- ---- expressions of one instruction
 
@@ -71,9 +80,16 @@ signed_word_fits n h = split (nat_lt n (2 ^ 31)) refl
 pub end_fits : FitsOp End
 end_fits = record { numbers = tt; sound = tt }
 
-pub constant_fits : (value : Constant) → FitsOp (drafts.constant_of value) → FitsCode (drafts.constant_of value ∷ End ∷ [])
-constant_fits (constant.I32 z) h = record { nested = (plain (I32Const z) done, record { instructions = refl; tree = (refl, tt) }); each = (h, (end_fits, tt)) }
-constant_fits (constant.I64 z) h = record { nested = (plain (I64Const z) done, record { instructions = refl; tree = (refl, tt) }); each = (h, (end_fits, tt)) }
+pub constant_fits : (value : Constant) → FitsOp (drafts.constant_of value) →
+    FitsCode (drafts.constant_of value ∷ End ∷ [])
+constant_fits (constant.I32 z) h = record {
+  nested = (plain (I32Const z) done, record { instructions = refl; tree = (refl, tt) });
+  each = (h, (end_fits, tt));
+}
+constant_fits (constant.I64 z) h = record {
+  nested = (plain (I64Const z) done, record { instructions = refl; tree = (refl, tt) });
+  each = (h, (end_fits, tt));
+}
 
 constant_size : (value : Constant) → length (expression (drafts.constant_of value ∷ End ∷ [])) ≤ 12
 constant_size (constant.I32 z) = omega (arith, length-append (signed z) (0x0B ∷ []), signed_size z)
@@ -95,9 +111,11 @@ type_size t =
 abbrev is_narrow : ApiCall → Bool
 is_narrow call = nat_le (length call.parameters) 9
 
-all_narrow : (calls : List ApiCall) (row : ℕ) → list_all is_narrow calls ≡ true → length (option_map_or (λ call. call.parameters) (slice_get calls row) []) ≤ 9
+all_narrow : (calls : List ApiCall) (row : ℕ) → list_all is_narrow calls ≡ true →
+    length (option_map_or (λ call. call.parameters) (slice_get calls row) []) ≤ 9
 all_narrow [] row e = omega arith
-all_narrow (call ∷ calls) zero e = leb-true (length call.parameters) 9 (and_parts (is_narrow call) (list_all is_narrow calls) e).0
+all_narrow (call ∷ calls) zero e =
+    leb-true (length call.parameters) 9 (and_parts (is_narrow call) (list_all is_narrow calls) e).0
 all_narrow (call ∷ calls) (suc row) e = all_narrow calls row (and_parts (is_narrow call) (list_all is_narrow calls) e).1
 
 pub parameters_few : (row : ℕ) → length (row_parameters row) ≤ 9
@@ -137,7 +155,8 @@ export_size name m =
     let index = length m.imports + length m.codes in
     omega (arith, length-append (text name) (0 ∷ number index), text_size name, number_size index)
 
-pub code_size : (b : Body) → length (code (drafts.code_of b)) ≤ 21 + length (flat_map locals b.locals) + length (flat_map op b.ops)
+pub code_size : (b : Body) →
+    length (code (drafts.code_of b)) ≤ 21 + length (flat_map locals b.locals) + length (flat_map op b.ops)
 code_size b =
     omega (
       arith,

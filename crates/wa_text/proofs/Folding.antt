@@ -1,5 +1,7 @@
 -- A text, line by line.
-use Rattle.std.proofs.Common.{◌≡◌, ℕ, ◌+◌, ◌<◌, ◌≤◌, ◌==◌, ◌&&◌, nat_le, nat_lt, Bool, true, false, if◌then◌else◌, List, [], ◌∷◌, ◌++◌, length, Option, Some, None, Result, Ok, Err, refl, ap, ◌∙◌, subst, length-append, arith}
+use Rattle.std.proofs.Common.{◌≡◌, ℕ, ◌+◌, ◌<◌, ◌≤◌, ◌==◌, ◌&&◌, nat_le, nat_lt, Bool, true, false, if◌then◌else◌, List}
+use Rattle.std.proofs.Common.{[], ◌∷◌, ◌++◌, length, Option, Some, None, Result, Ok, Err, refl, ap, ◌∙◌, subst}
+use Rattle.std.proofs.Common.{length-append, arith}
 use Rattle.wa_ops.specs.Rows.{row_named}
 use Rattle.wa_ops.specs.declared.modules.Import.{Import}
 use Rattle.wa_ops.specs.declared.modules.Module.{Module}
@@ -15,7 +17,9 @@ use Rattle.wa_text.specs.declared.draft.Turn.TheVariants as turn
 use Rattle.wa_text.specs.declared.fault.AsmRule.{AsmRule}
 use Rattle.wa_text.specs.declared.text_line.TextLine.{TextLine}
 use Rattle.wa_text.specs.declared.text_line.TextLine.TheVariants as line
-use Rattle.wa_text.specs.Draft.{Step, Turned, goes, ends, wrong, first_draft, is_imported, imported, is_closed, is_empty, rank, in_part, body_step, import_step, import_named, plain_step, call_step, step}
+use Rattle.wa_text.specs.Draft.{Step, Turned, goes, ends, wrong, first_draft, is_imported, imported, is_closed}
+use Rattle.wa_text.specs.Draft.{is_empty, rank, in_part, body_step, import_step, import_named, plain_step, call_step}
+use Rattle.wa_text.specs.Draft.{step}
 use Rattle.wa_text.specs.Lines.{shown, text_read}
 use Rattle.wa_text.specs.Meaning.{breaks, unended, read_step, line_step, after_step, meaning_from, meaning}
 
@@ -39,11 +43,13 @@ off = record { kept = tt }
 out : {P : Draft → Type 0} {m : Module} → Keeps P (ends m)
 out = record { kept = tt }
 
-either : {P : Draft → Type 0} (test : Bool) {one other : Step} → Keeps P one → Keeps P other → Keeps P (if test then one else other)
+either : {P : Draft → Type 0} (test : Bool) {one other : Step} → Keeps P one → Keeps P other →
+    Keeps P (if test then one else other)
 either true h g = h
 either false h g = g
 
-in_body : {P : Draft → Type 0} (found : Option Body) {f : Body → Step} → ((body : Body) → Keeps P (f body)) → Keeps P (body_step found f)
+in_body : {P : Draft → Type 0} (found : Option Body) {f : Body → Step} → ((body : Body) → Keeps P (f body)) →
+    Keeps P (body_step found f)
 in_body None h = off
 in_body (Some body) h = h body
 
@@ -59,7 +65,8 @@ of_row draft name (Some row) =
     omega (arith, length-append draft.module.imports (new ∷ [])) in
     either (is_imported name draft.module.imports) off (on grown)
 
-of_op : (draft : Draft) (body : Body) (op : Op) (behind : Option (List Bool)) → Keeps (OneMore draft) (plain_step draft body op behind)
+of_op : (draft : Draft) (body : Body) (op : Op) (behind : Option (List Bool)) →
+    Keeps (OneMore draft) (plain_step draft body op behind)
 of_op draft body op None = off
 of_op draft body op (Some regions) = on (omega arith)
 
@@ -67,7 +74,8 @@ of_call : (draft : Draft) (body : Body) (found : Option ℕ) → Keeps (OneMore 
 of_call draft body None = off
 of_call draft body (Some index) = on (omega arith)
 
-in_part_keeps : {P : Draft → Type 0} (draft : Draft) (most : Part) {did : Step} → Keeps P did → Keeps P (in_part draft most did)
+in_part_keeps : {P : Draft → Type 0} (draft : Draft) (most : Part) {did : Step} → Keeps P did →
+    Keeps P (in_part draft most did)
 in_part_keeps draft most h = either (nat_le (rank draft.part) (rank most)) h off
 
 step_imports : (draft : Draft) (l : TextLine) → Keeps (OneMore draft) (step draft l)
@@ -80,7 +88,8 @@ step_imports draft line.Hook = either (is_closed draft.body && length draft.modu
 step_imports draft line.Cbak = either (is_closed draft.body && length draft.module.codes == 1) (on (omega arith)) off
 step_imports draft (line.Local kind) = in_body draft.body (λ body. either (is_empty body.ops) (on (omega arith)) off)
 step_imports draft (line.Plain op) = in_body draft.body (λ body. of_op draft body op (opened op body.regions))
-step_imports draft (line.Call name) = in_body draft.body (λ body. of_call draft body (import_named draft.module.imports name))
+step_imports draft (line.Call name) =
+    in_body draft.body (λ body. of_call draft body (import_named draft.module.imports name))
 step_imports draft line.Close = in_body draft.body (λ body. either (is_empty body.regions) (on (omega arith)) off)
 step_imports draft line.Done = either (is_closed draft.body && nat_lt 0 (length draft.module.codes)) out off
 
@@ -105,11 +114,14 @@ pub begins : (text : List ℕ) → Folds text first_draft 1 text
 begins text = record { same = refl; bytes = omega arith; imports = omega arith }
 
 -- what the text means, by its next line
-next_line : (text : List ℕ) (draft : Draft) (number : ℕ) (rest line more : List ℕ) (did : Step) → Folds text draft number rest
+next_line : (text : List ℕ) (draft : Draft) (number : ℕ) (rest line more : List ℕ) (did : Step) →
+    Folds text draft number rest
     → cut rest ≡ whole line (cut more) → line_step draft (shown line) ≡ did
     → meaning text ≡ after_step number did (λ next. meaning_from next (number + 1) (cut more))
 next_line text draft number rest line more did f c s =
-    f.same ∙ ap (meaning_from draft number) c ∙ ap (λ d. after_step number d (λ next. meaning_from next (number + 1) (cut more))) s
+    f.same
+    ∙ ap (meaning_from draft number) c
+    ∙ ap (λ d. after_step number d (λ next. meaning_from next (number + 1) (cut more))) s
 
 pub goes_on : (text : List ℕ) (draft next : Draft) (number : ℕ) (rest line more : List ℕ) → Folds text draft number rest
     → cut rest ≡ whole line (cut more) → length more < length rest → (t : Turn) → t ≡ turn.Goes
@@ -138,13 +150,16 @@ pub last_goes : (text : List ℕ) (draft next : Draft) (number : ℕ) (rest : Li
     → cut rest ≡ behind rest → 0 < length rest → (t : Turn) → t ≡ turn.Goes
     → Turned t next (line_step draft (shown rest)) → meaning text ≡ unended (number + 1)
 last_goes text draft next number rest f c some t is h =
-    last_line text draft number rest (goes next) f c some (subst (λ t. Turned t next (line_step draft (shown rest))) is h)
+    last_line text draft number rest (goes next) f c some
+    (subst (λ t. Turned t next (line_step draft (shown rest))) is h)
 
-pub last_breaks : (text : List ℕ) (draft next : Draft) (rule : AsmRule) (number : ℕ) (rest : List ℕ) → Folds text draft number rest
+pub last_breaks : (text : List ℕ) (draft next : Draft) (rule : AsmRule) (number : ℕ) (rest : List ℕ) →
+    Folds text draft number rest
     → cut rest ≡ behind rest → 0 < length rest → (t : Turn) → t ≡ turn.Wrong rule
     → Turned t next (line_step draft (shown rest)) → meaning text ≡ breaks number rule
 last_breaks text draft next rule number rest f c some t is h =
-    last_line text draft number rest (wrong rule) f c some (subst (λ t. Turned t next (line_step draft (shown rest))) is h)
+    last_line text draft number rest (wrong rule) f c some
+    (subst (λ t. Turned t next (line_step draft (shown rest))) is h)
 
 -- bytes that are some
 pub some_bytes : (rest : List ℕ) → false ≡ (length rest == 0) → 0 < length rest

@@ -1,7 +1,10 @@
 -- How many bytes spell a module at most.
-use Rattle.std.proofs.Common.{◌≡◌, ℕ, zero, suc, ◌+◌, ◌*◌, ◌/◌, ◌%◌, ◌≤◌, ℤ, Bool, true, false, nat_lt, if◌then◌else◌, List, [], ◌∷◌, ◌++◌, length, flat_map, option_map, Option, Some, None, length-append, arith}
+use Rattle.std.proofs.Common.{◌≡◌, ℕ, zero, suc, ◌+◌, ◌*◌, ◌/◌, ◌%◌, ◌≤◌, ℤ, Bool, true, false, nat_lt, if◌then◌else◌}
+use Rattle.std.proofs.Common.{List, [], ◌∷◌, ◌++◌, length, flat_map, option_map, Option, Some, None, length-append}
+use Rattle.std.proofs.Common.{arith}
 use Rattle.wa_ops.specs.declared.modules.Module.{Module}
-use Rattle.wa_encode.specs.Modules.{func_type, limits, table, import, global, export, element, code, segment, filled, contents, section, sections, encoded}
+use Rattle.wa_encode.specs.Modules.{func_type, limits, table, import, global, export, element, code, segment, filled}
+use Rattle.wa_encode.specs.Modules.{contents, section, sections, encoded}
 use Rattle.wa_encode.specs.Numbers.{is_short, low_bits, high_bits, shortest, shortest_signed, number, signed}
 use Rattle.wa_encode.specs.Vectors.{vector, text}
 
@@ -12,7 +15,8 @@ unfolding shortest
 shortest_size zero n = omega arith
 shortest_size (suc more) n = split (nat_lt n 128) (shortest_size more (n / 128))
   where
-    split : (t : Bool) → length (shortest more (n / 128)) ≤ more + 1 → length (if t then n ∷ [] else (128 + n % 128) ∷ shortest more (n / 128)) ≤ suc more + 1
+    split : (t : Bool) → length (shortest more (n / 128)) ≤ more + 1 →
+        length (if t then n ∷ [] else (128 + n % 128) ∷ shortest more (n / 128)) ≤ suc more + 1
     split true h = omega arith
     split false h = omega (arith, h)
 
@@ -21,7 +25,8 @@ unfolding shortest_signed
 shortest_signed_size zero z = omega arith
 shortest_signed_size (suc more) z = split (is_short z) (shortest_signed_size more (high_bits z))
   where
-    split : (t : Bool) → length (shortest_signed more (high_bits z)) ≤ more + 1 → length (if t then low_bits z ∷ [] else (128 + low_bits z) ∷ shortest_signed more (high_bits z)) ≤ suc more + 1
+    split : (t : Bool) → length (shortest_signed more (high_bits z)) ≤ more + 1 →
+        length (if t then low_bits z ∷ [] else (128 + low_bits z) ∷ shortest_signed more (high_bits z)) ≤ suc more + 1
     split true h = omega arith
     split false h = omega (arith, h)
 
@@ -36,18 +41,28 @@ signed_size z = shortest_signed_size 9 z
 pub text_size : (bytes : List ℕ) → length (text bytes) ≤ 10 + length bytes
 text_size bytes = omega (arith, length-append (number (length bytes)) bytes, number_size (length bytes))
 
-pub vector_size : {A : Type 0} (spell : A → List ℕ) (xs : List A) → length (vector spell xs) ≤ 10 + length (flat_map spell xs)
+pub vector_size : {A : Type 0} (spell : A → List ℕ) (xs : List A) →
+    length (vector spell xs) ≤ 10 + length (flat_map spell xs)
 vector_size spell xs = omega (arith, length-append (number (length xs)) (flat_map spell xs), number_size (length xs))
 
 -- items of a few bytes each
-pub items_size : {A : Type 0} (spell : A → List ℕ) (most : ℕ) → ((x : A) → length (spell x) ≤ most) → (xs : List A) → length (flat_map spell xs) ≤ most * length xs
+pub items_size : {A : Type 0} (spell : A → List ℕ) (most : ℕ) → ((x : A) → length (spell x) ≤ most) → (xs : List A) →
+    length (flat_map spell xs) ≤ most * length xs
 items_size spell most h [] = omega arith
-items_size spell most h (x ∷ xs) = omega (arith, length-append (spell x) (flat_map spell xs), h x, items_size spell most h xs)
+items_size spell most h (x ∷ xs) =
+    omega (arith, length-append (spell x) (flat_map spell xs), h x, items_size spell most h xs)
 
 -- an item more
-pub more_size : {A : Type 0} (spell : A → List ℕ) (xs : List A) (x : A) → length (flat_map spell (xs ++ x ∷ [])) ≡ length (flat_map spell xs) + length (spell x)
+pub more_size : {A : Type 0} (spell : A → List ℕ) (xs : List A) (x : A) →
+    length (flat_map spell (xs ++ x ∷ [])) ≡ length (flat_map spell xs) + length (spell x)
 more_size spell [] x = omega (arith, length-append (spell x) [])
-more_size spell (y ∷ ys) x = omega (arith, length-append (spell y) (flat_map spell (ys ++ x ∷ [])), length-append (spell y) (flat_map spell ys), more_size spell ys x)
+more_size spell (y ∷ ys) x =
+    omega (
+      arith,
+      length-append (spell y) (flat_map spell (ys ++ x ∷ [])),
+      length-append (spell y) (flat_map spell ys),
+      more_size spell ys x,
+    )
 
 -- ---- modules
 
@@ -55,7 +70,8 @@ abbrev inner_size : Option (List ℕ) → ℕ
 inner_size None = 0
 inner_size (Some inside) = length inside
 
-filled_size : {A : Type 0} (spell : A → List ℕ) (xs : List A) → inner_size (filled spell xs) ≤ 10 + length (flat_map spell xs)
+filled_size : {A : Type 0} (spell : A → List ℕ) (xs : List A) →
+    inner_size (filled spell xs) ≤ 10 + length (flat_map spell xs)
 filled_size spell [] = omega arith
 filled_size spell (x ∷ xs) = vector_size spell (x ∷ xs)
 
@@ -74,7 +90,12 @@ total_size (inside ∷ others) = 11 + inner_size inside + total_size others
 sections_size : (id : ℕ) (bodies : List (Option (List ℕ))) → length (sections id bodies) ≤ total_size bodies
 sections_size id [] = omega arith
 sections_size id (inside ∷ others) =
-    omega (arith, length-append (section id inside) (sections (suc id) others), section_size id inside, sections_size (suc id) others)
+    omega (
+      arith,
+      length-append (section id inside) (sections (suc id) others),
+      section_size id inside,
+      sections_size (suc id) others,
+    )
 
 -- the bytes of all items of a module
 abbrev pub weight : Module → ℕ

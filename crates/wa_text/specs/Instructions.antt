@@ -1,9 +1,12 @@
 -- The instructions of a line of text, by the names of WebAssembly Core 1.0 ("Index of Instructions"), and what stands
 -- behind each name (this project's own).
-use Rattle.std.specs.Prelude.{ℕ, ◌==◌, List, [], ◌∷◌, codes, Option, Some, None, option_map, option_and_then, if◌then◌else◌}
+use Rattle.std.specs.Prelude.{ℕ, ◌==◌, List, [], ◌∷◌, codes, Option, Some, None, option_map, option_and_then}
+use Rattle.std.specs.Prelude.{if◌then◌else◌}
 use Rattle.std.specs.Str.{bytes_eq}
 use Rattle.wa_ops.specs.declared.op.Op.{Op}
-use Rattle.wa_ops.specs.declared.op.Op.TheVariants.{Unreachable, Nop, Block, Loop, If, Else, End, Br, BrIf, BrTable, Return, Drop, Select, LocalGet, LocalSet, LocalTee, GlobalGet, GlobalSet, Load, Store, MemorySize, I32Const, I64Const, Number}
+use Rattle.wa_ops.specs.declared.op.Op.TheVariants.{Unreachable, Nop, Block, Loop, If, Else, End, Br, BrIf, BrTable}
+use Rattle.wa_ops.specs.declared.op.Op.TheVariants.{Return, Drop, Select, LocalGet, LocalSet, LocalTee, GlobalGet}
+use Rattle.wa_ops.specs.declared.op.Op.TheVariants.{GlobalSet, Load, Store, MemorySize, I32Const, I64Const, Number}
 use Rattle.wa_ops.specs.declared.op.ValueType.{ValueType}
 use Rattle.wa_ops.specs.declared.op.ValueType.TheVariants.{I32, I64, F32, F64}
 use Rattle.wa_ops.specs.declared.opcode.Form.{Form}

@@ -1,5 +1,6 @@
 -- The lines of the assembler's text (this project's own).
-use Rattle.std.specs.Prelude.{ℕ, ◌==◌, List, [], ◌∷◌, codes, Option, Some, None, Result, Ok, Err, Bool, true, false, option_map, option_and_then, if◌then◌else◌}
+use Rattle.std.specs.Prelude.{ℕ, ◌==◌, List, [], ◌∷◌, codes, Option, Some, None, Result, Ok, Err, Bool, true, false}
+use Rattle.std.specs.Prelude.{option_map, option_and_then, if◌then◌else◌}
 use Rattle.std.specs.Str.{bytes_eq}
 use Rattle.wa_ops.specs.Opcodes.{form_at}
 use Rattle.wa_ops.specs.declared.op.ValueType.{ValueType}
@@ -11,7 +12,8 @@ use Rattle.wa_text.specs.declared.fault.AsmRule.TheVariants.{BadWord, BadShape}
 use Rattle.wa_text.specs.declared.text_line.Constant.{Constant}
 use Rattle.wa_text.specs.declared.text_line.Constant.TheVariants as constant
 use Rattle.wa_text.specs.declared.text_line.TextLine.{TextLine}
-use Rattle.wa_text.specs.declared.text_line.TextLine.TheVariants.{Import, Memory, Global, Data, Hook, Cbak, Local, Close, Done}
+use Rattle.wa_text.specs.declared.text_line.TextLine.TheVariants.{Import, Memory, Global, Data, Hook, Cbak, Local}
+use Rattle.wa_text.specs.declared.text_line.TextLine.TheVariants.{Close, Done}
 use Rattle.wa_text.specs.Instructions.{alone, one, two, name_of, instructions, opcode_in, operands}
 use Rattle.wa_text.specs.Numbers.{word_of, signed_of}
 

@@ -1,7 +1,8 @@
 //! The instructions of a line of text.
 ghost use Rattle.std.specs.Prelude.{◌≡◌, ◌≤◌, ◌^◌, map, IfOk, IfSome};
 ghost use Rattle.wa_ops.specs.Opcodes.{form_at};
-ghost use Rattle.wa_text.specs.Instructions.{alone, labels_of, name_of, one, operands, own_operands, result_of, two, value_type_of};
+ghost use Rattle.wa_text.specs.Instructions.{alone, labels_of, name_of, one, operands, own_operands, result_of, two};
+ghost use Rattle.wa_text.specs.Instructions.{value_type_of};
 ghost use Rattle.wa_text.specs.Numbers.{IsBelow, signed_of, word_of};
 
 use crate::TextLine;

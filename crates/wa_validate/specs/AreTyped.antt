@@ -32,4 +32,7 @@ are_typed m = typed_below m (length m.codes)
 
 -- the test holds exactly of the modules whose functions are well typed
 abbrev pub TypingDecided : Type 0
-TypingDecided = (m : Module) → (are_typed m ≡ true → (function : ℕ) → IsTypedAt m function) × (((function : ℕ) → IsTypedAt m function) → are_typed m ≡ true)
+TypingDecided =
+    (m : Module) →
+    (are_typed m ≡ true → (function : ℕ) → IsTypedAt m function)
+    × (((function : ℕ) → IsTypedAt m function) → are_typed m ≡ true)

@@ -20,11 +20,13 @@ abbrev pub depth_on : Option Stack → (Stack → Depth) → Depth
 depth_on None next = surface
 depth_on (Some stack) next = next stack
 
--- the greatest depth at the places of code and at its end, with this stack before it and this many operands in the regions around
+-- the greatest depth at the places of code and at its end, with this stack before it and this many operands in the
+-- regions around
 abbrev pub peak : Context → List (Option ValueType) → Sequence → ℕ → Stack → Depth
 peak context labels done below stack = depth_at labels below stack
 peak context labels (plain instruction rest) below stack =
-    deeper (depth_at labels below stack) (depth_on (effect context labels instruction stack) (peak context labels rest below))
+    deeper (depth_at labels below stack)
+    (depth_on (effect context labels instruction stack) (peak context labels rest below))
 peak context labels (block result body rest) below stack =
     deeper (depth_at labels below stack)
     (deeper (peak context (result ∷ labels) body (below + length stack.slots) fresh)

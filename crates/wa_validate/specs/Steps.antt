@@ -11,7 +11,11 @@ use Rattle.wa_validate.specs.declared.open_regions.OpenRegions.{OpenRegions}
 
 -- at the beginning of a body with this result
 abbrev pub begun : Option ValueType → OpenRegions
-begun result = record { labels = result ∷ []; inner = record { first_arm = false; result = result; below = 0; operands = fresh }; around = [] }
+begun result = record {
+  labels = result ∷ [];
+  inner = record { first_arm = false; result = result; below = 0; operands = fresh };
+  around = [];
+}
 
 abbrev pub with_operands : Stack → OpenRegions → OpenRegions
 with_operands stack r = record r { inner = record r.inner { operands = stack } }
@@ -20,13 +24,20 @@ with_operands stack r = record r { inner = record r.inner { operands = stack } }
 abbrev pub entered : Bool → Option ValueType → Option ValueType → OpenRegions → OpenRegions
 entered first_arm label result r = record {
   labels = label ∷ r.labels;
-  inner = record { first_arm = first_arm; result = result; below = r.inner.below + length r.inner.operands.slots; operands = fresh };
+  inner = record {
+    first_arm = first_arm;
+    result = result;
+    below = r.inner.below + length r.inner.operands.slots;
+    operands = fresh;
+  };
   around = r.inner ∷ r.around;
 }
 
 -- without the innermost region's result, where that is all that is left
 abbrev pub ended : OpenRegions → Option OpenRegions
-ended r = and_then (pop_result r.inner.result r.inner.operands) (λ left. if no_slots left.slots then Some (with_operands left r) else None)
+ended r =
+    and_then (pop_result r.inner.result r.inner.operands)
+    (λ left. if no_slots left.slots then Some (with_operands left r) else None)
 
 abbrev pub in_second_arm : OpenRegions → OpenRegions
 in_second_arm r = record r { inner = record r.inner { first_arm = false; operands = fresh } }
@@ -54,10 +65,12 @@ closed r = if lacks_else r.inner.first_arm r.inner.result then None else Some (h
 abbrev pub step_by : Nesting → Context → Op → OpenRegions → Option OpenRegions
 step_by (opens_block result) context op r = Some (entered false result result r)
 step_by (opens_loop result) context op r = Some (entered false None result r)
-step_by (opens_if result) context op r = and_then (pop I32 r.inner.operands) (λ left. Some (entered true result result (with_operands left r)))
+step_by (opens_if result) context op r =
+    and_then (pop I32 r.inner.operands) (λ left. Some (entered true result result (with_operands left r)))
 step_by turns context op r = and_then (ended r) turned
 step_by closes context op r = and_then (ended r) closed
-step_by stands context op r = and_then (effect context r.labels op r.inner.operands) (λ stack. Some (with_operands stack r))
+step_by stands context op r =
+    and_then (effect context r.labels op r.inner.operands) (λ stack. Some (with_operands stack r))
 
 -- the regions behind an instruction, where it is well typed
 abbrev pub step : Context → Op → OpenRegions → Option OpenRegions

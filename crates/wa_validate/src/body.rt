@@ -20,7 +20,9 @@ pub(crate) enum Verdict {
 /// The verdict on a body's flat code.
 pub(crate) fn type_body(alloc: Global, scope: &Scope<'_>, ops: &[Op]) -> Result<Verdict, NoMemory>
     requires short { length ops.now < 2 ^ 32 }
-    ensures verdict { IfOk result (λ verdict. (body : Sequence) → Reads ops.now body → verdict ≡ verdict_of (body_typing scope.now body) (body_depth scope.now body)) }
+    ensures verdict { IfOk result (λ verdict.
+        (body : Sequence) → Reads ops.now body →
+        verdict ≡ verdict_of (body_typing scope.now body) (body_depth scope.now body)) }
 {
     let mut regions = OpenRegions::new(alloc, scope.result())?;
     let mut most = Depth::surface();

@@ -97,7 +97,8 @@ impl OpenRegions {
 
     /// At an `end`: the region around has the result.
     fn close(&mut self) -> Result<bool, NoMemory>
-        ensures closed { IfOk result (λ typed. and_then (ended self.old) closed ≡ (if typed then Some self.new else None)) }
+        ensures closed { IfOk result
+            (λ typed. and_then (ended self.old) closed ≡ (if typed then Some self.new else None)) }
     {
         if !self.end() {
             return Ok(false);

@@ -1,5 +1,6 @@
 ghost use Rattle.std.specs.Prelude.{◌≡◌, Some, None, Option, OnOk, IfOk, length, reverse, if◌then◌else◌};
-ghost use Rattle.wa_ops.specs.Typing.{fresh, loosened, push, push_result, pop, pop_all, pop_result, dropped, selected, changed, left_with, one_of};
+ghost use Rattle.wa_ops.specs.Typing.{fresh, loosened, push, push_result, pop, pop_all, pop_result, dropped, selected};
+ghost use Rattle.wa_ops.specs.Typing.{changed, left_with, one_of};
 ghost use Rattle.wa_validate.specs.Slots.{slot_of, slot_in, top_of};
 
 use std::alloc::Global;
@@ -97,7 +98,8 @@ impl Operands {
     /// Takes the last operand, whatever its type.
     pub(crate) fn take_any(&mut self) -> Option<Slot>
         ensures none { result ≡ None → top_of self.old.slots self.old.loose ≡ None }
-        ensures some { (slot : Slot) → result ≡ Some slot → top_of self.old.slots self.old.loose ≡ Some (slot_of slot, self.new) }
+        ensures some { (slot : Slot) → result ≡ Some slot →
+            top_of self.old.slots self.old.loose ≡ Some (slot_of slot, self.new) }
     {
         match self.slots.pop() {
             Some(slot) => Some(slot),
@@ -114,7 +116,8 @@ impl Operands {
 
     /// Takes two operands of one type, and gives one.
     pub(crate) fn select(&mut self) -> Result<bool, NoMemory>
-        ensures selected { IfOk result (λ typed. selected self.old.slots self.old.loose ≡ (if typed then Some self.new else None)) }
+        ensures selected { IfOk result
+            (λ typed. selected self.old.slots self.old.loose ≡ (if typed then Some self.new else None)) }
     {
         let Some(second) = self.take_any() else {
             return Ok(false);
@@ -133,7 +136,8 @@ impl Operands {
 
     /// Takes these, the last first, and gives that.
     pub(crate) fn change(&mut self, taken: &[ValueType], given: ValueType) -> Result<bool, NoMemory>
-        ensures changed { IfOk result (λ typed. changed (reverse taken.now) given self.old ≡ (if typed then Some self.new else None)) }
+        ensures changed { IfOk result
+            (λ typed. changed (reverse taken.now) given self.old ≡ (if typed then Some self.new else None)) }
     {
         if !self.take_all(taken) {
             return Ok(false);

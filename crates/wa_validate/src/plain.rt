@@ -2,7 +2,8 @@ ghost use Rattle.std.specs.Prelude.{◌≡◌, ◌&&◌, ◌<◌, ◌^◌, ◌�
 ghost use Rattle.wa_ops.specs.Accesses.{load_type, load_width, store_type, store_width, number_takes, number_gives};
 ghost use Rattle.wa_ops.specs.Callees.{takes, gives};
 ghost use Rattle.wa_ops.specs.Opcodes.{is_load, is_store, is_number};
-ghost use Rattle.wa_ops.specs.Typing.{effect, push, selected, and_then, push_result, pop_result, pop, left_with, all_carry, changed, stored, pop_all};
+ghost use Rattle.wa_ops.specs.Typing.{effect, push, selected, and_then, push_result, pop_result, pop, left_with};
+ghost use Rattle.wa_ops.specs.Typing.{all_carry, changed, stored, pop_all};
 
 use crate::accesses::{
     is_load, is_number, is_store, load_type, load_width, number_gives, number_takes, store_type,
@@ -20,7 +21,8 @@ pub(crate) fn type_plain(
     op: &Op,
     operands: &mut Operands,
 ) -> Result<bool, NoMemory>
-    ensures effect { IfOk result (λ typed. effect scope.now labels.now op.now operands.old ≡ (if typed then Some operands.new else None)) }
+    ensures effect { IfOk result
+        (λ typed. effect scope.now labels.now op.now operands.old ≡ (if typed then Some operands.new else None)) }
 {
     match op {
         Op::Unreachable => {
@@ -61,7 +63,8 @@ fn give(kind: ValueType, operands: &mut Operands) -> Result<bool, NoMemory>
 }
 
 fn branch(labels: &Labels, label: u32, operands: &mut Operands) -> bool
-    ensures left { and_then (slice_get labels.now label) (λ carried. left_with carried operands.old) ≡ (if result then Some operands.new else None) }
+    ensures left { and_then (slice_get labels.now label) (λ carried. left_with carried operands.old)
+        ≡ (if result then Some operands.new else None) }
 {
     match labels.get(label) {
         Some(carried) => operands.leave_with(carried),
@@ -70,7 +73,11 @@ fn branch(labels: &Labels, label: u32, operands: &mut Operands) -> bool
 }
 
 fn branch_if(labels: &Labels, label: u32, operands: &mut Operands) -> Result<bool, NoMemory>
-    ensures typed { IfOk result (λ typed. and_then (pop ValueType.I32 operands.old) (λ below. and_then (slice_get labels.now label) (λ carried. and_then (pop_result carried below) (λ left. Some (push_result carried left)))) ≡ (if typed then Some operands.new else None)) }
+    ensures typed { IfOk result (λ typed.
+        and_then (pop ValueType.I32 operands.old) (λ below.
+        and_then (slice_get labels.now label)
+        (λ carried. and_then (pop_result carried below) (λ left. Some (push_result carried left))))
+        ≡ (if typed then Some operands.new else None)) }
 {
     if !operands.take(ValueType::I32) {
         return Ok(false);
@@ -86,7 +93,10 @@ fn branch_if(labels: &Labels, label: u32, operands: &mut Operands) -> Result<boo
 }
 
 fn branch_by(labels: &Labels, listed: &[u32], last: u32, operands: &mut Operands) -> bool
-    ensures left { and_then (pop ValueType.I32 operands.old) (λ below. and_then (slice_get labels.now last) (λ carried. if all_carry labels.now carried listed.now then left_with carried below else None)) ≡ (if result then Some operands.new else None) }
+    ensures left { and_then (pop ValueType.I32 operands.old) (λ below.
+        and_then (slice_get labels.now last)
+        (λ carried. if all_carry labels.now carried listed.now then left_with carried below else None))
+        ≡ (if result then Some operands.new else None) }
 {
     if !operands.take(ValueType::I32) {
         return false;
@@ -98,7 +108,9 @@ fn branch_by(labels: &Labels, listed: &[u32], last: u32, operands: &mut Operands
 }
 
 fn call(scope: &Scope<'_>, function: u32, operands: &mut Operands) -> Result<bool, NoMemory>
-    ensures changed { IfOk result (λ typed. and_then (slice_get scope.now.calls function) (λ callee. changed (takes callee) (gives callee) operands.old) ≡ (if typed then Some operands.new else None)) }
+    ensures changed { IfOk result (λ typed.
+        and_then (slice_get scope.now.calls function) (λ callee. changed (takes callee) (gives callee) operands.old)
+        ≡ (if typed then Some operands.new else None)) }
 {
     let Some(callee) = scope.callee(function) else {
         return Ok(false);
@@ -110,7 +122,9 @@ fn call(scope: &Scope<'_>, function: u32, operands: &mut Operands) -> Result<boo
 }
 
 fn select(operands: &mut Operands) -> Result<bool, NoMemory>
-    ensures selected { IfOk result (λ typed. and_then (pop ValueType.I32 operands.old) (λ below. selected below.slots below.loose) ≡ (if typed then Some operands.new else None)) }
+    ensures selected { IfOk result (λ typed.
+        and_then (pop ValueType.I32 operands.old) (λ below. selected below.slots below.loose)
+        ≡ (if typed then Some operands.new else None)) }
 {
     if !operands.take(ValueType::I32) {
         return Ok(false);
@@ -119,7 +133,9 @@ fn select(operands: &mut Operands) -> Result<bool, NoMemory>
 }
 
 fn get_local(scope: &Scope<'_>, local: u32, operands: &mut Operands) -> Result<bool, NoMemory>
-    ensures typed { IfOk result (λ typed. and_then (slice_get scope.now.locals local) (λ kind. Some (push kind operands.old)) ≡ (if typed then Some operands.new else None)) }
+    ensures typed { IfOk result (λ typed.
+        and_then (slice_get scope.now.locals local) (λ kind. Some (push kind operands.old))
+        ≡ (if typed then Some operands.new else None)) }
 {
     match scope.local(local) {
         Some(kind) => give(kind, operands),
@@ -128,7 +144,8 @@ fn get_local(scope: &Scope<'_>, local: u32, operands: &mut Operands) -> Result<b
 }
 
 fn set_local(scope: &Scope<'_>, local: u32, operands: &mut Operands) -> bool
-    ensures typed { and_then (slice_get scope.now.locals local) (λ kind. pop kind operands.old) ≡ (if result then Some operands.new else None) }
+    ensures typed { and_then (slice_get scope.now.locals local) (λ kind. pop kind operands.old)
+        ≡ (if result then Some operands.new else None) }
 {
     match scope.local(local) {
         Some(kind) => operands.take(kind),
@@ -137,7 +154,9 @@ fn set_local(scope: &Scope<'_>, local: u32, operands: &mut Operands) -> bool
 }
 
 fn tee_local(scope: &Scope<'_>, local: u32, operands: &mut Operands) -> Result<bool, NoMemory>
-    ensures typed { IfOk result (λ typed. and_then (slice_get scope.now.locals local) (λ kind. changed (kind ∷ []) kind operands.old) ≡ (if typed then Some operands.new else None)) }
+    ensures typed { IfOk result (λ typed.
+        and_then (slice_get scope.now.locals local) (λ kind. changed (kind ∷ []) kind operands.old)
+        ≡ (if typed then Some operands.new else None)) }
 {
     match scope.local(local) {
         Some(kind) => operands.change(&[kind], kind),
@@ -146,7 +165,9 @@ fn tee_local(scope: &Scope<'_>, local: u32, operands: &mut Operands) -> Result<b
 }
 
 fn get_global(scope: &Scope<'_>, global: u32, operands: &mut Operands) -> Result<bool, NoMemory>
-    ensures typed { IfOk result (λ typed. and_then (slice_get scope.now.globals global) (λ found. Some (push found.kind operands.old)) ≡ (if typed then Some operands.new else None)) }
+    ensures typed { IfOk result (λ typed.
+        and_then (slice_get scope.now.globals global) (λ found. Some (push found.kind operands.old))
+        ≡ (if typed then Some operands.new else None)) }
 {
     match scope.global(global) {
         Some(found) => give(found.kind, operands),
@@ -155,7 +176,8 @@ fn get_global(scope: &Scope<'_>, global: u32, operands: &mut Operands) -> Result
 }
 
 fn set_global(scope: &Scope<'_>, global: u32, operands: &mut Operands) -> bool
-    ensures typed { and_then (slice_get scope.now.globals global) (λ found. stored scope.now found operands.old) ≡ (if result then Some operands.new else None) }
+    ensures typed { and_then (slice_get scope.now.globals global) (λ found. stored scope.now found operands.old)
+        ≡ (if result then Some operands.new else None) }
 {
     match scope.global(global) {
         Some(found) => found.mutable && operands.take(found.kind),
@@ -177,7 +199,10 @@ fn load(
     align: u32,
     operands: &mut Operands,
 ) -> Result<bool, NoMemory>
-    ensures typed { IfOk result (λ typed. (if scope.now.has_memory && (is_load opcode && nat_le (2 ^ align) (load_width opcode)) then changed (ValueType.I32 ∷ []) (load_type opcode) operands.old else None) ≡ (if typed then Some operands.new else None)) }
+    ensures typed { IfOk result (λ typed.
+        (if scope.now.has_memory && (is_load opcode && nat_le (2 ^ align) (load_width opcode))
+        then changed (ValueType.I32 ∷ []) (load_type opcode) operands.old else None)
+        ≡ (if typed then Some operands.new else None)) }
 {
     if !(scope.has_memory() && is_load(opcode) && is_aligned(align, load_width(opcode))) {
         return Ok(false);
@@ -186,7 +211,9 @@ fn load(
 }
 
 fn store(scope: &Scope<'_>, opcode: u8, align: u32, operands: &mut Operands) -> bool
-    ensures typed { (if scope.now.has_memory && (is_store opcode && nat_le (2 ^ align) (store_width opcode)) then pop_all (store_type opcode ∷ ValueType.I32 ∷ []) operands.old else None) ≡ (if result then Some operands.new else None) }
+    ensures typed { (if scope.now.has_memory && (is_store opcode && nat_le (2 ^ align) (store_width opcode))
+        then pop_all (store_type opcode ∷ ValueType.I32 ∷ []) operands.old else None)
+        ≡ (if result then Some operands.new else None) }
 {
     if !(scope.has_memory() && is_store(opcode) && is_aligned(align, store_width(opcode))) {
         return false;
@@ -195,7 +222,9 @@ fn store(scope: &Scope<'_>, opcode: u8, align: u32, operands: &mut Operands) -> 
 }
 
 fn memory_size(scope: &Scope<'_>, operands: &mut Operands) -> Result<bool, NoMemory>
-    ensures typed { IfOk result (λ typed. (if scope.now.has_memory then Some (push ValueType.I32 operands.old) else None) ≡ (if typed then Some operands.new else None)) }
+    ensures typed { IfOk result (λ typed.
+        (if scope.now.has_memory then Some (push ValueType.I32 operands.old) else None)
+        ≡ (if typed then Some operands.new else None)) }
 {
     if !scope.has_memory() {
         return Ok(false);
@@ -204,7 +233,9 @@ fn memory_size(scope: &Scope<'_>, operands: &mut Operands) -> Result<bool, NoMem
 }
 
 fn number(opcode: u8, operands: &mut Operands) -> Result<bool, NoMemory>
-    ensures typed { IfOk result (λ typed. (if is_number opcode then changed (number_takes opcode) (number_gives opcode) operands.old else None) ≡ (if typed then Some operands.new else None)) }
+    ensures typed { IfOk result (λ typed.
+        (if is_number opcode then changed (number_takes opcode) (number_gives opcode) operands.old else None)
+        ≡ (if typed then Some operands.new else None)) }
 {
     if !is_number(opcode) {
         return Ok(false);

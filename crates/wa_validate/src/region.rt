@@ -58,7 +58,8 @@ impl Around {
     }
 
     pub(crate) fn pop(&mut self) -> Option<Region>
-        ensures popped { MatchOption result ((self.old ≡ []) × (self.new ≡ [])) (λ region. self.old ≡ region ∷ self.new) }
+        ensures popped { MatchOption result ((self.old ≡ []) × (self.new ≡ []))
+            (λ region. self.old ≡ region ∷ self.new) }
     {
         self.regions.pop()
     }

@@ -1,7 +1,8 @@
 ghost use Rattle.std.specs.Prelude.{◌≡◌, ◌++◌, ℕ, List, IfOk, IfSome, IsSome, OnOk, Some, None, slice_get, replicate};
 ghost use Rattle.wa_ops.specs.declared.op.ValueType.{ValueType};
 ghost use Rattle.wa_ops.specs.Callees.{Callee};
-ghost use Rattle.wa_ops.specs.Contexts.{callee_of_row, context_of, function_type, locals_of, parameters_of, result_of, expanded};
+ghost use Rattle.wa_ops.specs.Contexts.{callee_of_row, context_of, function_type, locals_of, parameters_of, result_of};
+ghost use Rattle.wa_ops.specs.Contexts.{expanded};
 ghost use Rattle.wa_ops.specs.Rows.{row_named};
 ghost use Rattle.wa_validate.specs.Needs.{AllRowTypes, HasRowType, IsTypeOf};
 
@@ -25,7 +26,14 @@ impl<'a> Model for Scope<'a> {
 
     ghost Value = { Context };
 
-    ghost view = { λ s. record { calls = calls_of s.wasm.now.imports; locals = s.locals; globals = global_types s.wasm.now.globals; has_memory = has_items s.wasm.now.memories; result = s.result } };
+    ghost view = { λ s.
+        record {
+          calls = calls_of s.wasm.now.imports;
+          locals = s.locals;
+          globals = global_types s.wasm.now.globals;
+          has_memory = has_items s.wasm.now.memories;
+          result = s.result;
+        } };
 
     ghost invariant = { λ s. AllRowTypes s.wasm.now.types s.wasm.now.imports };
 }
@@ -64,7 +72,9 @@ impl<'a> Scope<'a> {
 
     pub(crate) fn global(&self, index: u32) -> Option<&ModuleGlobal>
         ensures none { result ≡ None → slice_get self.now.globals index ≡ None }
-        ensures some { IfSome result (λ global. slice_get self.now.globals index ≡ Some (record { kind = global.now.kind; is_mutable = global.now.mutable })) }
+        ensures some { IfSome result (λ global.
+            slice_get self.now.globals index
+            ≡ Some (record { kind = global.now.kind; is_mutable = global.now.mutable })) }
     {
         self.wasm.globals.as_slice().get(index as usize)
     }
@@ -78,7 +88,8 @@ impl<'a> Scope<'a> {
     /// The type of the function that a call names.
     pub(crate) fn callee(&self, function: u32) -> Option<&FuncType>
         ensures none { result ≡ None → slice_get self.now.calls function ≡ None }
-        ensures some { IfSome result (λ t. (callee : Callee) × (slice_get self.now.calls function ≡ Some callee) × IsTypeOf callee t.now) }
+        ensures some { IfSome result
+            (λ t. (callee : Callee) × (slice_get self.now.calls function ≡ Some callee) × IsTypeOf callee t.now) }
     {
         match self.wasm.imports.as_slice().get(function as usize) {
             Some(import) => function_of(self.wasm, import.item),
@@ -91,7 +102,8 @@ impl<'a> Scope<'a> {
 fn function_of(module: &Module, item: ImportItem) -> Option<&FuncType>
     requires typed { (name : List ℕ) × HasRowType «module».now.types name item }
     ensures found { IsSome result }
-    ensures typed { (name : List ℕ) → HasRowType «module».now.types name item → IfSome result (λ t. IsTypeOf (callee_of_row (row_named name)) t.now) }
+    ensures typed { (name : List ℕ) → HasRowType «module».now.types name item →
+        IfSome result (λ t. IsTypeOf (callee_of_row (row_named name)) t.now) }
 {
     match item {
         ImportItem::Function(index) => module.types.as_slice().get(index as usize),

@@ -11,7 +11,8 @@ use wa_ops::{Items, Module};
 /// Why a module isn't typed.
 #[derive(Clone, Copy, Debug, PartialEq, Eq)]
 pub enum TypeFault {
-    /// The first function that isn't well typed, counted among those that the module defines, and the first of its instructions at which typing fails.
+    /// The first function that isn't well typed, counted among those that the module defines, and the first of its
+    /// instructions at which typing fails.
     Untyped { func: u32, op: u32 },
     /// Memory was wanted and there was none.
     NoMemory,

@@ -1,6 +1,8 @@
 -- Cuts by products with powers of ten that aren't negative, and what follows for the definition.
-use Rattle.std.proofs.Common.{◌≡◌, ℕ, zero, suc, ◌+◌, ◌-◌, ◌*◌, ◌^◌, ◌<◌, ◌≤◌, ◌⊎◌, ◌↔◌, inl, inr, refl, sym, ap, add_comm, subst, ◌∙◌, arith, ℤ, pos, negsuc, neg_ℤ, ◌+ℤ◌, ◌-ℤ◌, unsigned_abs}
-use Rattle.std.proofs.Math.Nat.{one-le-pow, mul-le-mul_right, mul-lt-mul_of_pos_right, le_of_mul-le-mul_right, lt_of_mul-lt-mul_right, mul-le-mul_left, pow-suc}
+use Rattle.std.proofs.Common.{◌≡◌, ℕ, zero, suc, ◌+◌, ◌-◌, ◌*◌, ◌^◌, ◌<◌, ◌≤◌, ◌⊎◌, ◌↔◌, inl, inr, refl, sym, ap}
+use Rattle.std.proofs.Common.{add_comm, subst, ◌∙◌, arith, ℤ, pos, negsuc, neg_ℤ, ◌+ℤ◌, ◌-ℤ◌, unsigned_abs}
+use Rattle.std.proofs.Math.Nat.{one-le-pow, mul-le-mul_right, mul-lt-mul_of_pos_right, le_of_mul-le-mul_right}
+use Rattle.std.proofs.Math.Nat.{lt_of_mul-lt-mul_right, mul-le-mul_left, pow-suc}
 use Rattle.std.proofs.lemmas.Nat.{pow-add}
 use Rattle.std.proofs.lemmas.Bool.{cases_lt}
 use Rattle.std.proofs.lemmas.Int.{ints}
@@ -38,30 +40,43 @@ pub record Raised (a b x y : ℕ) : Type 0 where
   pub left : x ≡ a * factor
   pub right : y ≡ b * factor
 
-pub raised : (k e z : ℤ) (k' e' : ℕ) → k +ℤ z ≡ pos k' → e +ℤ z ≡ pos e' → Raised (tens (e -ℤ k)) (tens (k -ℤ e)) (10 ^ e') (10 ^ k')
+pub raised : (k e z : ℤ) (k' e' : ℕ) → k +ℤ z ≡ pos k' → e +ℤ z ≡ pos e' →
+    Raised (tens (e -ℤ k)) (tens (k -ℤ e)) (10 ^ e') (10 ^ k')
 raised k e z k' e' is_k is_e =
     elim (apart k' e') [
       | inl (d, h) ↦
           let a = tens_of (e -ℤ k) d (omega (arith, ints)) in
           let b = tens_neg (k -ℤ e) d (omega (arith, ints)) in
           let w : 10 ^ e' ≡ 10 ^ d * 10 ^ k' = ap (λ t. 10 ^ t) (h ∙ add_comm k' d) ∙ pow-add 10 d k' in
-          record { factor = 10 ^ k'; some = ten_pos k'; left = w ∙ ap (λ t. t * 10 ^ k') (sym a); right = omega (arith, ap (λ t. t * 10 ^ k') b) }
+          record {
+            factor = 10 ^ k';
+            some = ten_pos k';
+            left = w ∙ ap (λ t. t * 10 ^ k') (sym a);
+            right = omega (arith, ap (λ t. t * 10 ^ k') b);
+          }
       | inr (d, h) ↦
           let a = tens_neg (e -ℤ k) d (omega (arith, ints)) in
           let b = tens_of (k -ℤ e) d (omega (arith, ints)) in
           let w : 10 ^ k' ≡ 10 ^ d * 10 ^ e' = ap (λ t. 10 ^ t) (h ∙ add_comm e' d) ∙ pow-add 10 d e' in
-          record { factor = 10 ^ e'; some = ten_pos e'; left = omega (arith, ap (λ t. t * 10 ^ e') a); right = w ∙ ap (λ t. t * 10 ^ e') (sym b) }
+          record {
+            factor = 10 ^ e';
+            some = ten_pos e';
+            left = omega (arith, ap (λ t. t * 10 ^ e') a);
+            right = w ∙ ap (λ t. t * 10 ^ e') (sym b);
+          }
     ]
 
 -- the relations of the definition with the raised exponents, and back
-to_products : (a b x y m p q : ℕ) → Raised a b x y → m * q * a ≤ p * b → p * b < (m + 1) * q * a → (m * q * x ≤ p * y) × (p * y < (m + 1) * q * x)
+to_products : (a b x y m p q : ℕ) → Raised a b x y → m * q * a ≤ p * b → p * b < (m + 1) * q * a →
+    (m * q * x ≤ p * y) × (p * y < (m + 1) * q * x)
 to_products a b x y m p q r low high =
     rw (r.left, r.right) (
       omega (arith, mul-le-mul_right r.factor low),
       omega (arith, mul-lt-mul_of_pos_right high r.some),
     )
 
-of_products : (a b x y m p q : ℕ) → Raised a b x y → m * q * x ≤ p * y → p * y < (m + 1) * q * x → (m * q * a ≤ p * b) × (p * b < (m + 1) * q * a)
+of_products : (a b x y m p q : ℕ) → Raised a b x y → m * q * x ≤ p * y → p * y < (m + 1) * q * x →
+    (m * q * a ≤ p * b) × (p * b < (m + 1) * q * a)
 of_products a b x y m p q r low high =
     let low' : m * q * a * r.factor ≤ p * b * r.factor = omega (arith, rw (r.left, r.right) at low) in
     let high' : p * b * r.factor < (m + 1) * q * a * r.factor = omega (arith, rw (r.left, r.right) at high) in
@@ -77,18 +92,25 @@ of_equal a b x y u v r same =
     let down : v * b ≤ u * a = le_of_mul-le-mul_right {k = r.factor} (omega arith) r.some in
     omega arith
 
-pub to_cuts : (p q : ℕ) (k : ℤ) (m : ℕ) (e z : ℤ) (k' e' : ℕ) → k +ℤ z ≡ pos k' → e +ℤ z ≡ pos e' → IsCut p q k m e → Cuts p q k' m e'
+pub to_cuts : (p q : ℕ) (k : ℤ) (m : ℕ) (e z : ℤ) (k' e' : ℕ) → k +ℤ z ≡ pos k' → e +ℤ z ≡ pos e' → IsCut p q k m e →
+    Cuts p q k' m e'
 to_cuts p q k m e z k' e' is_k is_e cut =
-    let both = to_products (tens (e -ℤ k)) (tens (k -ℤ e)) (10 ^ e') (10 ^ k') m p q (raised k e z k' e' is_k is_e) cut.below cut.above in
+    let both =
+    to_products (tens (e -ℤ k)) (tens (k -ℤ e)) (10 ^ e') (10 ^ k') m p q (raised k e z k' e' is_k is_e) cut.below
+    cut.above in
     record { low = cut.low; high = cut.high; below = both.0; above = both.1 }
 
-pub of_cuts : (p q : ℕ) (k : ℤ) (m : ℕ) (e z : ℤ) (k' e' : ℕ) → k +ℤ z ≡ pos k' → e +ℤ z ≡ pos e' → Cuts p q k' m e' → IsCut p q k m e
+pub of_cuts : (p q : ℕ) (k : ℤ) (m : ℕ) (e z : ℤ) (k' e' : ℕ) → k +ℤ z ≡ pos k' → e +ℤ z ≡ pos e' → Cuts p q k' m e' →
+    IsCut p q k m e
 of_cuts p q k m e z k' e' is_k is_e cuts =
-    let both = of_products (tens (e -ℤ k)) (tens (k -ℤ e)) (10 ^ e') (10 ^ k') m p q (raised k e z k' e' is_k is_e) cuts.below cuts.above in
+    let both =
+    of_products (tens (e -ℤ k)) (tens (k -ℤ e)) (10 ^ e') (10 ^ k') m p q (raised k e z k' e' is_k is_e) cuts.below
+    cuts.above in
     record { low = cuts.low; high = cuts.high; below = both.0; above = both.1 }
 
 -- where the digits of n are cut: n < (m + 1) * 10 ^ d
-floor_above : (p q n k l m e d : ℕ) → e ≡ k + d → n * q * 10 ^ k ≤ p * 10 ^ l → p * 10 ^ l < (n + 1) * q * 10 ^ k → Cuts n 1 k m e → Cuts p q l m e
+floor_above : (p q n k l m e d : ℕ) → e ≡ k + d → n * q * 10 ^ k ≤ p * 10 ^ l → p * 10 ^ l < (n + 1) * q * 10 ^ k →
+    Cuts n 1 k m e → Cuts p q l m e
 floor_above p q n k l m e d h low high cuts =
     let is : 10 ^ e ≡ 10 ^ k * 10 ^ d = ap (λ t. 10 ^ t) h ∙ pow-add 10 k d in
     let below = subst (λ t. m * 1 * t ≤ n * 10 ^ k) is cuts.below in
@@ -108,7 +130,8 @@ floor_above p q n k l m e d h low high cuts =
     }
 
 -- n has sixteen digits and no more, else no (m + 1) of sixteen digits is above it
-floor_below : (p q n k l m e d : ℕ) → k ≡ e + d → 10 ^ 15 ≤ n → n * q * 10 ^ k ≤ p * 10 ^ l → p * 10 ^ l < (n + 1) * q * 10 ^ k → Cuts n 1 k m e → Cuts p q l m e
+floor_below : (p q n k l m e d : ℕ) → k ≡ e + d → 10 ^ 15 ≤ n → n * q * 10 ^ k ≤ p * 10 ^ l →
+    p * 10 ^ l < (n + 1) * q * 10 ^ k → Cuts n 1 k m e → Cuts p q l m e
 floor_below p q n k l m e zero h long low high cuts = floor_above p q n k l m e 0 (omega arith) low high cuts
 floor_below p q n k l m e (suc d) h long low high cuts =
     let is : 10 ^ k ≡ 10 ^ e * 10 ^ suc d = ap (λ t. 10 ^ t) h ∙ pow-add 10 e (suc d) in
@@ -119,7 +142,8 @@ floor_below p q n k l m e (suc d) h long low high cuts =
     absurd (omega (arith, under, wide, long, cuts.high))
 
 -- a fraction has the cut of the whole number below it, where that has sixteen digits or more
-pub cuts_of_floor : (p q n k l m e : ℕ) → 10 ^ 15 ≤ n → n * q * 10 ^ k ≤ p * 10 ^ l → p * 10 ^ l < (n + 1) * q * 10 ^ k → Cuts n 1 k m e → Cuts p q l m e
+pub cuts_of_floor : (p q n k l m e : ℕ) → 10 ^ 15 ≤ n → n * q * 10 ^ k ≤ p * 10 ^ l →
+    p * 10 ^ l < (n + 1) * q * 10 ^ k → Cuts n 1 k m e → Cuts p q l m e
 cuts_of_floor p q n k l m e long low high cuts =
     elim (apart k e) [
       | inl (d, h) ↦ floor_above p q n k l m e d h low high cuts
@@ -132,7 +156,8 @@ at_least_zero (pos n) c h = (n + c, refl)
 at_least_zero (negsuc n) c h = (c - suc n, omega (arith, ints))
 
 -- the fraction p / q has the cut of the whole number n below it
-pub floor_cut : (p q n : ℕ) (k : ℤ) (m : ℕ) (e : ℤ) → 10 ^ 15 ≤ n → n * q ≤ p → p < (n + 1) * q → IsCut n 1 k m e → IsCut p q k m e
+pub floor_cut : (p q n : ℕ) (k : ℤ) (m : ℕ) (e : ℤ) → 10 ^ 15 ≤ n → n * q ≤ p → p < (n + 1) * q → IsCut n 1 k m e →
+    IsCut p q k m e
 floor_cut p q n k m e long low high cut =
     let c : ℕ = unsigned_abs k + unsigned_abs e in
     let (k', is_k) = at_least_zero k c (omega arith) in
@@ -145,7 +170,8 @@ floor_cut p q n k m e long low high cut =
 pub floor_exact : (p q n m a b : ℕ) → n * q ≡ p → m * 1 * a ≡ n * b → m * q * a ≡ p * b
 floor_exact p q n m a b whole same = rw (← whole) (omega (arith, ap (λ t. t * q) same))
 
-pub of_floor_exact : (p q n m a b : ℕ) → 0 < q → 0 < b → n * q ≤ p → m * 1 * a ≤ n * b → m * q * a ≡ p * b → (m * 1 * a ≡ n * b) × (n * q ≡ p)
+pub of_floor_exact : (p q n m a b : ℕ) → 0 < q → 0 < b → n * q ≤ p → m * 1 * a ≤ n * b → m * q * a ≡ p * b →
+    (m * 1 * a ≡ n * b) × (n * q ≡ p)
 of_floor_exact p q n m a b some_q some_b low below same =
     let x : m * 1 * a * q ≤ n * b * q = mul-le-mul_right q below in
     let y : n * q * b ≤ p * b = mul-le-mul_right b low in
@@ -184,7 +210,8 @@ scaled_cut p q s k l m e is cut =
     of_cuts p q k m e (pos c) (l' + s) e' (omega (arith, ints)) is_e
     (record { low = cuts.low; high = cuts.high; below = rw same cuts.below; above = rw same cuts.above })
 
-pub scaled_exact : (p q s : ℕ) (k l : ℤ) (m : ℕ) (e : ℤ) → l +ℤ pos s ≡ k → IsExact (p * 10 ^ s) q l m e ↔ IsExact p q k m e
+pub scaled_exact : (p q s : ℕ) (k l : ℤ) (m : ℕ) (e : ℤ) → l +ℤ pos s ≡ k →
+    IsExact (p * 10 ^ s) q l m e ↔ IsExact p q k m e
 scaled_exact p q s k l m e is =
     let c : ℕ = unsigned_abs l + unsigned_abs e in
     let (l', is_l) = at_least_zero l c (omega arith) in
@@ -193,8 +220,12 @@ scaled_exact p q s k l m e is =
     let same : p * 10 ^ (l' + s) ≡ p * 10 ^ s * 10 ^ l' = rw (pow-add 10 l' s) (omega arith) in
     let one = raised l e (pos c) l' e' is_l is_e in
     let two = raised k e (pos c) (l' + s) e' is_k is_e in (
-      λ h. of_equal (tens (e -ℤ k)) (tens (k -ℤ e)) (10 ^ e') (10 ^ (l' + s)) (m * q) p two (to_equal (tens (e -ℤ l)) (tens (l -ℤ e)) (10 ^ e') (10 ^ l') (m * q) (p * 10 ^ s) one h ∙ sym same),
-      λ h. of_equal (tens (e -ℤ l)) (tens (l -ℤ e)) (10 ^ e') (10 ^ l') (m * q) (p * 10 ^ s) one (to_equal (tens (e -ℤ k)) (tens (k -ℤ e)) (10 ^ e') (10 ^ (l' + s)) (m * q) p two h ∙ same),
+      λ h.
+          of_equal (tens (e -ℤ k)) (tens (k -ℤ e)) (10 ^ e') (10 ^ (l' + s)) (m * q) p two
+          (to_equal (tens (e -ℤ l)) (tens (l -ℤ e)) (10 ^ e') (10 ^ l') (m * q) (p * 10 ^ s) one h ∙ sym same),
+      λ h.
+          of_equal (tens (e -ℤ l)) (tens (l -ℤ e)) (10 ^ e') (10 ^ l') (m * q) (p * 10 ^ s) one
+          (to_equal (tens (e -ℤ k)) (tens (k -ℤ e)) (10 ^ e') (10 ^ (l' + s)) (m * q) p two h ∙ same),
     )
 
 -- and the other way
@@ -210,15 +241,18 @@ raised_cut p q s k l m e is cut =
     (record { low = cuts.low; high = cuts.high; below = rw (← same) cuts.below; above = rw (← same) cuts.above })
 
 -- a whole number v of times 10 ^ l has the cut of a whole number n of times 10 ^ k just below it
-pub whole_floor_cut : (v n a : ℕ) (k l : ℤ) (m : ℕ) (e : ℤ) → l +ℤ pos a ≡ k → 10 ^ 15 ≤ n → n * 10 ^ a ≤ v → v < (n + 1) * 10 ^ a → IsCut n 1 k m e → IsCut v 1 l m e
+pub whole_floor_cut : (v n a : ℕ) (k l : ℤ) (m : ℕ) (e : ℤ) → l +ℤ pos a ≡ k → 10 ^ 15 ≤ n → n * 10 ^ a ≤ v →
+    v < (n + 1) * 10 ^ a → IsCut n 1 k m e → IsCut v 1 l m e
 whole_floor_cut v n a k l m e is long low high cut =
     let c : ℕ = unsigned_abs l + unsigned_abs e in
     let (l', is_l) = at_least_zero l c (omega arith) in
     let (e', is_e) = at_least_zero e c (omega arith) in
     let is_k : k +ℤ pos c ≡ pos (l' + a) = omega (arith, ints) in
     let cuts = to_cuts n 1 k m e (pos c) (l' + a) e' is_k is_e cut in
-    let low' : n * 1 * 10 ^ (l' + a) ≤ v * 10 ^ l' = rw (pow-add 10 l' a) (omega (arith, mul-le-mul_right (10 ^ l') low)) in
-    let high' : v * 10 ^ l' < (n + 1) * 1 * 10 ^ (l' + a) = rw (pow-add 10 l' a) (omega (arith, mul-lt-mul_of_pos_right high (ten_pos l'))) in
+    let low' : n * 1 * 10 ^ (l' + a) ≤ v * 10 ^ l' =
+    rw (pow-add 10 l' a) (omega (arith, mul-le-mul_right (10 ^ l') low)) in
+    let high' : v * 10 ^ l' < (n + 1) * 1 * 10 ^ (l' + a) =
+    rw (pow-add 10 l' a) (omega (arith, mul-lt-mul_of_pos_right high (ten_pos l'))) in
     of_cuts v 1 l m e (pos c) l' e' is_l is_e (cuts_of_floor v 1 n (l' + a) l' m e' long low' high' cuts)
 
 -- a whole number of sixteen digits is its own cut

@@ -1,5 +1,6 @@
 -- From the digits that the code finds to the answers of the definitions.
-use Rattle.std.proofs.Common.{◌≡◌, ℕ, ◌+◌, ◌-◌, ◌*◌, ◌/◌, ◌%◌, ◌^◌, ◌<◌, ◌≤◌, refl, sym, ap, subst, ◌∙◌, arith, Bool, true, false, not, inl, inr, ◌≤ℤ◌, ℤ, pos, negsuc, ◌+ℤ◌, ◌-ℤ◌, to_z, of_z, w64, Result}
+use Rattle.std.proofs.Common.{◌≡◌, ℕ, ◌+◌, ◌-◌, ◌*◌, ◌/◌, ◌%◌, ◌^◌, ◌<◌, ◌≤◌, refl, sym, ap, subst, ◌∙◌, arith, Bool}
+use Rattle.std.proofs.Common.{true, false, not, inl, inr, ◌≤ℤ◌, ℤ, pos, negsuc, ◌+ℤ◌, ◌-ℤ◌, to_z, of_z, w64, Result}
 use Rattle.std.proofs.Math.Nat.{div-mul-le_self, lt-div-mul-add, mul-le-mul_right, mul-lt-mul_of_pos_right}
 use Rattle.std.proofs.lemmas.Nat.{pow-add, le-div}
 use Rattle.std.proofs.lemmas.Int.{ints}
@@ -9,7 +10,8 @@ use Rattle.xfl.specs.Value.{Decimal, IsXfl, tens}
 use Rattle.xfl.specs.Cut.{IsCut, IsExact}
 use Rattle.xfl.specs.Operations.{differ, ranged, next_ranged}
 use Rattle.xfl.specs.Steps.{IsRounded, IsRoundedUp}
-use Rattle.xfl.proofs.Cuts.{ten_pos, floor_cut, floor_exact, of_floor_exact, moved, moved_exact, scaled_cut, scaled_exact}
+use Rattle.xfl.proofs.Cuts.{ten_pos, floor_cut, floor_exact, of_floor_exact, moved, moved_exact, scaled_cut}
+use Rattle.xfl.proofs.Cuts.{scaled_exact}
 
 -- the digits of a whole number whose first one is at a place up to the fifteenth
 pub short_low : (n p : ℕ) → p ≤ 15 → 10 ^ p ≤ n → 10 ^ 15 ≤ n * 10 ^ (15 - p)
@@ -34,21 +36,26 @@ tens_pos : (z : ℤ) → 0 < tens z
 tens_pos (pos n) = ten_pos n
 tens_pos (negsuc n) = omega arith
 
-pub quotient_cut : (p q m : ℕ) (e f : ℤ) → f ≡ e → 0 < q → 10 ^ 15 * q ≤ p → IsCut (p / q) 1 (pos 0) m e → IsCut p q (pos 0) m f
+pub quotient_cut : (p q m : ℕ) (e f : ℤ) → f ≡ e → 0 < q → 10 ^ 15 * q ≤ p → IsCut (p / q) 1 (pos 0) m e →
+    IsCut p q (pos 0) m f
 quotient_cut p q m e f is some long cut =
     subst (λ t. IsCut p q (pos 0) m t) (sym is)
     (floor_cut p q (p / q) (pos 0) m e (le-div (10 ^ 15) p q some long) (div-mul-le_self p q)
     (omega (arith, lt-div-mul-add {a = p} {b = q} some)) cut)
 
-pub quotient_exact : (p q m : ℕ) (e f : ℤ) → f ≡ e → 0 < q → p % q ≡ 0 → IsExact (p / q) 1 (pos 0) m e → IsExact p q (pos 0) m f
+pub quotient_exact : (p q m : ℕ) (e f : ℤ) → f ≡ e → 0 < q → p % q ≡ 0 → IsExact (p / q) 1 (pos 0) m e →
+    IsExact p q (pos 0) m f
 quotient_exact p q m e f is some whole same =
     subst (λ t. IsExact p q (pos 0) m t) (sym is)
     (floor_exact p q (p / q) m (tens (e -ℤ pos 0)) (tens (pos 0 -ℤ e)) (omega arith) same)
 
-pub of_quotient_exact : (p q m : ℕ) (e f : ℤ) → f ≡ e → 0 < q → IsCut (p / q) 1 (pos 0) m e → IsExact p q (pos 0) m f → (IsExact (p / q) 1 (pos 0) m e) × (p % q ≡ 0)
+pub of_quotient_exact : (p q m : ℕ) (e f : ℤ) → f ≡ e → 0 < q → IsCut (p / q) 1 (pos 0) m e → IsExact p q (pos 0) m f →
+    (IsExact (p / q) 1 (pos 0) m e) × (p % q ≡ 0)
 of_quotient_exact p q m e f is some cut same =
     let same' = subst (λ t. IsExact p q (pos 0) m t) is same in
-    let both = of_floor_exact p q (p / q) m (tens (e -ℤ pos 0)) (tens (pos 0 -ℤ e)) some (tens_pos (pos 0 -ℤ e)) (div-mul-le_self p q) cut.below same' in
+    let both =
+    of_floor_exact p q (p / q) m (tens (e -ℤ pos 0)) (tens (pos 0 -ℤ e)) some (tens_pos (pos 0 -ℤ e))
+    (div-mul-le_self p q) cut.below same' in
     let whole : p / q * q ≡ p = both.1 in
     (both.0, omega arith)
 
@@ -57,33 +64,45 @@ abbrev pub sum64 : ℤ → ℤ → ℤ
 sum64 a b = to_z w64 (of_z w64 (to_z w64 (of_z w64 a) +ℤ to_z w64 (of_z w64 b)))
 
 -- the digits at exponent 0, moved to the exponent k, are the answer
-pub of_digits : (negative : Bool) (p q : ℕ) (k : ℤ) (m : ℕ) (e f : ℤ) (r : Result Decimal XflFault) → (p ≡ 0 → ⊥) → IsCut p q (pos 0) m e → r ≡ ranged negative m f → f ≡ k +ℤ e → IsRounded (record { negative = negative; numerator = p; denominator = q; exponent = k }) r
+pub of_digits : (negative : Bool) (p q : ℕ) (k : ℤ) (m : ℕ) (e f : ℤ) (r : Result Decimal XflFault) → (p ≡ 0 → ⊥) →
+    IsCut p q (pos 0) m e → r ≡ ranged negative m f → f ≡ k +ℤ e →
+    IsRounded (record { negative = negative; numerator = p; denominator = q; exponent = k }) r
 of_digits negative p q k m e f r some cut gives is =
     record { nothing = λ h. absurd (some h); something = λ _. (m, f, moved p q k m e f is cut, gives) }
 
-pub of_exact_digits : (negative : Bool) (p q : ℕ) (k : ℤ) (m : ℕ) (e f : ℤ) (r : Result Decimal XflFault) → (p ≡ 0 → ⊥) → IsCut p q (pos 0) m e → IsExact p q (pos 0) m e → r ≡ ranged negative m f → f ≡ k +ℤ e → IsRoundedUp (record { negative = negative; numerator = p; denominator = q; exponent = k }) r
+pub of_exact_digits : (negative : Bool) (p q : ℕ) (k : ℤ) (m : ℕ) (e f : ℤ) (r : Result Decimal XflFault) →
+    (p ≡ 0 → ⊥) → IsCut p q (pos 0) m e → IsExact p q (pos 0) m e → r ≡ ranged negative m f → f ≡ k +ℤ e →
+    IsRoundedUp (record { negative = negative; numerator = p; denominator = q; exponent = k }) r
 of_exact_digits negative p q k m e f r some cut same gives is =
     record {
       nothing = λ h. absurd (some h);
-      something = λ _. (m, f, moved p q k m e f is cut, λ _. gives, λ h. absurd (h ((moved_exact p q k m e f is).0 same)));
+      something =
+          λ _. (m, f, moved p q k m e f is cut, λ _. gives, λ h. absurd (h ((moved_exact p q k m e f is).0 same)));
     }
 
-pub of_cut_digits : (negative : Bool) (p q : ℕ) (k : ℤ) (m : ℕ) (e f : ℤ) (r : Result Decimal XflFault) → (p ≡ 0 → ⊥) → IsCut p q (pos 0) m e → (IsExact p q (pos 0) m e → ⊥) → r ≡ next_ranged negative m f → f ≡ k +ℤ e → IsRoundedUp (record { negative = negative; numerator = p; denominator = q; exponent = k }) r
+pub of_cut_digits : (negative : Bool) (p q : ℕ) (k : ℤ) (m : ℕ) (e f : ℤ) (r : Result Decimal XflFault) → (p ≡ 0 → ⊥) →
+    IsCut p q (pos 0) m e → (IsExact p q (pos 0) m e → ⊥) → r ≡ next_ranged negative m f → f ≡ k +ℤ e →
+    IsRoundedUp (record { negative = negative; numerator = p; denominator = q; exponent = k }) r
 of_cut_digits negative p q k m e f r some cut other gives is =
     record {
       nothing = λ h. absurd (some h);
-      something = λ _. (m, f, moved p q k m e f is cut, λ h. absurd (other ((moved_exact p q k m e f is).1 h)), λ _. gives);
+      something =
+          λ _. (m, f, moved p q k m e f is cut, λ h. absurd (other ((moved_exact p q k m e f is).1 h)), λ _. gives);
     }
 
 -- the answer for an exact result that is written otherwise
-pub rounded_as : {n n' : Bool} {p p' q q' : ℕ} {k k' : ℤ} {r : Result Decimal XflFault} → IsRounded (record { negative = n; numerator = p; denominator = q; exponent = k }) r → n ≡ n' → p ≡ p' → q ≡ q' → k ≡ k' → IsRounded (record { negative = n'; numerator = p'; denominator = q'; exponent = k' }) r
+pub rounded_as : {n n' : Bool} {p p' q q' : ℕ} {k k' : ℤ} {r : Result Decimal XflFault} →
+    IsRounded (record { negative = n; numerator = p; denominator = q; exponent = k }) r → n ≡ n' → p ≡ p' → q ≡ q' →
+    k ≡ k' → IsRounded (record { negative = n'; numerator = p'; denominator = q'; exponent = k' }) r
 rounded_as {n} {n'} {p} {p'} {q} {q'} {k} {k'} {r} h en ep eq ek =
     subst (λ t. IsRounded (record { negative = t; numerator = p'; denominator = q'; exponent = k' }) r) en
     (subst (λ t. IsRounded (record { negative = n; numerator = t; denominator = q'; exponent = k' }) r) ep
     (subst (λ t. IsRounded (record { negative = n; numerator = p; denominator = t; exponent = k' }) r) eq
     (subst (λ t. IsRounded (record { negative = n; numerator = p; denominator = q; exponent = t }) r) ek h)))
 
-pub rounded_up_as : {n n' : Bool} {p p' q q' : ℕ} {k k' : ℤ} {r : Result Decimal XflFault} → IsRoundedUp (record { negative = n; numerator = p; denominator = q; exponent = k }) r → n ≡ n' → p ≡ p' → q ≡ q' → k ≡ k' → IsRoundedUp (record { negative = n'; numerator = p'; denominator = q'; exponent = k' }) r
+pub rounded_up_as : {n n' : Bool} {p p' q q' : ℕ} {k k' : ℤ} {r : Result Decimal XflFault} →
+    IsRoundedUp (record { negative = n; numerator = p; denominator = q; exponent = k }) r → n ≡ n' → p ≡ p' → q ≡ q' →
+    k ≡ k' → IsRoundedUp (record { negative = n'; numerator = p'; denominator = q'; exponent = k' }) r
 rounded_up_as {n} {n'} {p} {p'} {q} {q'} {k} {k'} {r} h en ep eq ek =
     subst (λ t. IsRoundedUp (record { negative = t; numerator = p'; denominator = q'; exponent = k' }) r) en
     (subst (λ t. IsRoundedUp (record { negative = n; numerator = t; denominator = q'; exponent = k' }) r) ep
@@ -91,7 +110,9 @@ rounded_up_as {n} {n'} {p} {p'} {q} {q'} {k} {k'} {r} h en ep eq ek =
     (subst (λ t. IsRoundedUp (record { negative = n; numerator = p; denominator = q; exponent = t }) r) ek h)))
 
 -- a power of ten moved between the number and its exponent leaves the answer as it is
-pub scaled_rounded : (negative : Bool) (p q s : ℕ) (k l : ℤ) (r : Result Decimal XflFault) → l +ℤ pos s ≡ k → IsRounded (record { negative = negative; numerator = p * 10 ^ s; denominator = q; exponent = l }) r → IsRounded (record { negative = negative; numerator = p; denominator = q; exponent = k }) r
+pub scaled_rounded : (negative : Bool) (p q s : ℕ) (k l : ℤ) (r : Result Decimal XflFault) → l +ℤ pos s ≡ k →
+    IsRounded (record { negative = negative; numerator = p * 10 ^ s; denominator = q; exponent = l }) r →
+    IsRounded (record { negative = negative; numerator = p; denominator = q; exponent = k }) r
 scaled_rounded negative p q s k l r is h =
     record {
       nothing = λ z. h.nothing (ap (λ t. t * 10 ^ s) z ∙ omega arith);
@@ -100,7 +121,9 @@ scaled_rounded negative p q s k l r is h =
           (m, e, scaled_cut p q s k l m e is cut, gives);
     }
 
-pub scaled_rounded_up : (negative : Bool) (p q s : ℕ) (k l : ℤ) (r : Result Decimal XflFault) → l +ℤ pos s ≡ k → IsRoundedUp (record { negative = negative; numerator = p * 10 ^ s; denominator = q; exponent = l }) r → IsRoundedUp (record { negative = negative; numerator = p; denominator = q; exponent = k }) r
+pub scaled_rounded_up : (negative : Bool) (p q s : ℕ) (k l : ℤ) (r : Result Decimal XflFault) → l +ℤ pos s ≡ k →
+    IsRoundedUp (record { negative = negative; numerator = p * 10 ^ s; denominator = q; exponent = l }) r →
+    IsRoundedUp (record { negative = negative; numerator = p; denominator = q; exponent = k }) r
 scaled_rounded_up negative p q s k l r is h =
     record {
       nothing = λ z. h.nothing (ap (λ t. t * 10 ^ s) z ∙ omega arith);
@@ -131,5 +154,6 @@ beq_other false false h e = cc
 
 -- the exponents of an XFL
 pub xfl_exponent : (x : Decimal) → IsXfl x → (negsuc 95 ≤ℤ x.exponent) × (x.exponent ≤ℤ pos 80)
-xfl_exponent x (inl h) = let z : x.exponent ≡ pos 0 = ap (λ d. d.exponent) h in (omega (arith, ints), omega (arith, ints))
+xfl_exponent x (inl h) =
+    let z : x.exponent ≡ pos 0 = ap (λ d. d.exponent) h in (omega (arith, ints), omega (arith, ints))
 xfl_exponent x (inr h) = (h.least, h.greatest)

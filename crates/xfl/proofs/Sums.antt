@@ -1,5 +1,6 @@
 -- Sums: what the code adds is the sum of the two values.
-use Rattle.std.proofs.Common.{◌≡◌, ℕ, zero, suc, ◌+◌, ◌-◌, ◌*◌, ◌^◌, ◌<◌, ◌≤◌, refl, sym, ap, subst, ◌∙◌, arith, Bool, true, false, inl, inr, ◌≤ℤ◌, ℤ, pos, negsuc, ◌+ℤ◌, ◌-ℤ◌, unsigned_abs, Result, Ok}
+use Rattle.std.proofs.Common.{◌≡◌, ℕ, zero, suc, ◌+◌, ◌-◌, ◌*◌, ◌^◌, ◌<◌, ◌≤◌, refl, sym, ap, subst, ◌∙◌, arith, Bool}
+use Rattle.std.proofs.Common.{true, false, inl, inr, ◌≤ℤ◌, ℤ, pos, negsuc, ◌+ℤ◌, ◌-ℤ◌, unsigned_abs, Result, Ok}
 use Rattle.std.specs.Prelude.{int_lt}
 use Rattle.std.proofs.Math.Nat.{mul-le-mul_right, mul-lt-mul_of_pos_right, pow-le-pow_right, mul-sub}
 use Rattle.std.proofs.Math.IntN.{+ℤ_comm}
@@ -25,7 +26,8 @@ pub place_of : (e : ℤ) → negsuc 95 ≤ℤ e → (b : ℕ) × (e +ℤ pos 96 
 place_of (pos n) h = (n + 96, refl)
 place_of (negsuc n) h = (95 - n, omega (arith, ints))
 
-pub scaled_is : (x : Decimal) (b : ℕ) → x.exponent +ℤ pos 96 ≡ pos b → scaled x ≡ signed x.negative (x.mantissa * 10 ^ b)
+pub scaled_is : (x : Decimal) (b : ℕ) → x.exponent +ℤ pos 96 ≡ pos b →
+    scaled x ≡ signed x.negative (x.mantissa * 10 ^ b)
 scaled_is x b h = ap (λ t. signed x.negative (x.mantissa * tens t)) h
 
 -- signs and magnitudes
@@ -60,23 +62,31 @@ signed_less false true a b d h = omega (arith, ints)
 signed_less false false a b d h = absurd (d refl)
 
 -- the answer for a whole number with a sign
-pub signed_rounded : (n : Bool) (v : ℕ) (z k : ℤ) (r : Result Decimal XflFault) → z ≡ signed n v → IsRounded (record { negative = n; numerator = v; denominator = 1; exponent = k }) r → IsRounded (whole z k) r
+pub signed_rounded : (n : Bool) (v : ℕ) (z k : ℤ) (r : Result Decimal XflFault) → z ≡ signed n v →
+    IsRounded (record { negative = n; numerator = v; denominator = 1; exponent = k }) r → IsRounded (whole z k) r
 signed_rounded n v z k r is h =
     subst (λ t. IsRounded (whole t k) r) (sym is)
     (record {
       nothing = λ e. h.nothing (sym (signed_abs n v) ∙ e);
       something = λ some.
           let some' : 0 < v = subst (λ t. 0 < t) (signed_abs n v) some in
-          let (m, e, cut, gives) = h.something some' in
-          (m, e, subst (λ t. IsCut t 1 k m e) (sym (signed_abs n v)) cut, subst (λ t. r ≡ ranged t m e) (sym (signed_sign n v some')) gives);
+          let (m, e, cut, gives) = h.something some' in (
+            m,
+            e,
+            subst (λ t. IsCut t 1 k m e) (sym (signed_abs n v)) cut,
+            subst (λ t. r ≡ ranged t m e) (sym (signed_sign n v some')) gives,
+          );
     })
 
 -- a whole number of times a power of ten above the least one
-raised_rounded : (n : Bool) (v b : ℕ) (k : ℤ) (r : Result Decimal XflFault) → k +ℤ pos 96 ≡ pos b → IsRounded (record { negative = n; numerator = v; denominator = 1; exponent = k }) r → IsRounded (record { negative = n; numerator = v * 10 ^ b; denominator = 1; exponent = negsuc 95 }) r
+raised_rounded : (n : Bool) (v b : ℕ) (k : ℤ) (r : Result Decimal XflFault) → k +ℤ pos 96 ≡ pos b →
+    IsRounded (record { negative = n; numerator = v; denominator = 1; exponent = k }) r →
+    IsRounded (record { negative = n; numerator = v * 10 ^ b; denominator = 1; exponent = negsuc 95 }) r
 raised_rounded n v b k r is h = elim (cases_eq v 0) [
   | inl z ↦ record {
     nothing = λ _. h.nothing z;
-    something = λ some. let w : v * 10 ^ b ≡ 0 = ap (λ t. t * 10 ^ b) z ∙ omega arith in absurd (omega (arith, w, some));
+    something =
+        λ some. let w : v * 10 ^ b ≡ 0 = ap (λ t. t * 10 ^ b) z ∙ omega arith in absurd (omega (arith, w, some));
   }
   | inr z ↦ record {
     nothing = λ e. absurd (omega (arith, e, mul-lt-mul_of_pos_right {m = 0} {n = v} (omega arith) (ten_pos b)));
@@ -87,7 +97,10 @@ raised_rounded n v b k r is h = elim (cases_eq v 0) [
 ]
 
 -- a whole number just above a whole number of times a power of ten
-floor_rounded : (n : Bool) (v w a : ℕ) (k : ℤ) (r : Result Decimal XflFault) → k +ℤ pos 96 ≡ pos a → 10 ^ 15 ≤ w → w * 10 ^ a ≤ v → v < (w + 1) * 10 ^ a → IsRounded (record { negative = n; numerator = w; denominator = 1; exponent = k }) r → IsRounded (record { negative = n; numerator = v; denominator = 1; exponent = negsuc 95 }) r
+floor_rounded : (n : Bool) (v w a : ℕ) (k : ℤ) (r : Result Decimal XflFault) → k +ℤ pos 96 ≡ pos a → 10 ^ 15 ≤ w →
+    w * 10 ^ a ≤ v → v < (w + 1) * 10 ^ a →
+    IsRounded (record { negative = n; numerator = w; denominator = 1; exponent = k }) r →
+    IsRounded (record { negative = n; numerator = v; denominator = 1; exponent = negsuc 95 }) r
 floor_rounded n v w a k r is long low high h = record {
   nothing = λ z. absurd (omega (arith, z, low, mul-le-mul_right (10 ^ a) long, ten_pos a));
   something = λ _.
@@ -96,7 +109,8 @@ floor_rounded n v w a k r is long low high h = record {
 }
 
 -- two numbers, the exponent of the first higher by the gap
-module _ (x y : Decimal) (gap : ℕ) (r : Result Decimal XflFault) (xs : IsXfl x) (ys : IsXfl y) (some_x : 0 < x.mantissa) (some_y : 0 < y.mantissa) (apart : x.exponent ≡ y.exponent +ℤ pos gap) where
+module _ (x y : Decimal) (gap : ℕ) (r : Result Decimal XflFault) (xs : IsXfl x) (ys : IsXfl y) (some_x : 0 < x.mantissa)
+    (some_y : 0 < y.mantissa) (apart : x.exponent ≡ y.exponent +ℤ pos gap) where
   base : (b : ℕ) × (y.exponent +ℤ pos 96 ≡ pos b)
   base = place_of y.exponent (number_of y ys some_y).least
 
@@ -106,37 +120,68 @@ module _ (x y : Decimal) (gap : ℕ) (r : Result Decimal XflFault) (xs : IsXfl x
       let same : x.mantissa * 10 ^ (gap + b) ≡ x.mantissa * 10 ^ gap * 10 ^ b = rw (pow-add 10 gap b) (omega arith) in
       scaled_is x (gap + b) is ∙ ap (signed x.negative) same
 
-  pub near_same : x.negative ≡ y.negative → IsRounded (record { negative = x.negative; numerator = x.mantissa * 10 ^ gap + y.mantissa; denominator = 1; exponent = y.exponent }) r → IsRounded (total x y) r
+  pub near_same : x.negative ≡ y.negative →
+      IsRounded (record {
+        negative = x.negative;
+        numerator = x.mantissa * 10 ^ gap + y.mantissa;
+        denominator = 1;
+        exponent = y.exponent;
+      }) r → IsRounded (total x y) r
   near_same same h =
       let (b, is) = base in
       let v : ℕ = (x.mantissa * 10 ^ gap + y.mantissa) * 10 ^ b in
-      let low : scaled y ≡ signed x.negative (y.mantissa * 10 ^ b) = scaled_is y b is ∙ ap (λ t. signed t (y.mantissa * 10 ^ b)) (sym same) in
+      let low : scaled y ≡ signed x.negative (y.mantissa * 10 ^ b) =
+      scaled_is y b is ∙ ap (λ t. signed t (y.mantissa * 10 ^ b)) (sym same) in
       let z : scaled x +ℤ scaled y ≡ signed x.negative v =
-      rw (scaled_high b is, low) (signed_same x.negative (x.mantissa * 10 ^ gap * 10 ^ b) (y.mantissa * 10 ^ b) ∙ ap (signed x.negative) (omega arith)) in
-      signed_rounded x.negative v (scaled x +ℤ scaled y) (negsuc 95) r z (raised_rounded x.negative (x.mantissa * 10 ^ gap + y.mantissa) b y.exponent r is h)
+      rw (scaled_high b is, low)
+      (signed_same x.negative (x.mantissa * 10 ^ gap * 10 ^ b) (y.mantissa * 10 ^ b)
+      ∙ ap (signed x.negative) (omega arith)) in
+      signed_rounded x.negative v (scaled x +ℤ scaled y) (negsuc 95) r z
+      (raised_rounded x.negative (x.mantissa * 10 ^ gap + y.mantissa) b y.exponent r is h)
 
-  pub near_more : (x.negative ≡ y.negative → ⊥) → y.mantissa ≤ x.mantissa * 10 ^ gap → IsRounded (record { negative = x.negative; numerator = x.mantissa * 10 ^ gap - y.mantissa; denominator = 1; exponent = y.exponent }) r → IsRounded (total x y) r
+  pub near_more : (x.negative ≡ y.negative → ⊥) → y.mantissa ≤ x.mantissa * 10 ^ gap →
+      IsRounded (record {
+        negative = x.negative;
+        numerator = x.mantissa * 10 ^ gap - y.mantissa;
+        denominator = 1;
+        exponent = y.exponent;
+      }) r → IsRounded (total x y) r
   near_more other more h =
       let (b, is) = base in
       let v : ℕ = (x.mantissa * 10 ^ gap - y.mantissa) * 10 ^ b in
       let more' : y.mantissa * 10 ^ b ≤ x.mantissa * 10 ^ gap * 10 ^ b = mul-le-mul_right (10 ^ b) more in
-      let parts : x.mantissa * 10 ^ gap * 10 ^ b - y.mantissa * 10 ^ b ≡ v = sym (sub_times (x.mantissa * 10 ^ gap) y.mantissa (10 ^ b)) in
+      let parts : x.mantissa * 10 ^ gap * 10 ^ b - y.mantissa * 10 ^ b ≡ v =
+      sym (sub_times (x.mantissa * 10 ^ gap) y.mantissa (10 ^ b)) in
       let z : scaled x +ℤ scaled y ≡ signed x.negative v =
-      rw (scaled_high b is, scaled_is y b is) (signed_more x.negative y.negative (x.mantissa * 10 ^ gap * 10 ^ b) (y.mantissa * 10 ^ b) other more' ∙ ap (signed x.negative) parts) in
-      signed_rounded x.negative v (scaled x +ℤ scaled y) (negsuc 95) r z (raised_rounded x.negative (x.mantissa * 10 ^ gap - y.mantissa) b y.exponent r is h)
+      rw (scaled_high b is, scaled_is y b is)
+      (signed_more x.negative y.negative (x.mantissa * 10 ^ gap * 10 ^ b) (y.mantissa * 10 ^ b) other more'
+      ∙ ap (signed x.negative) parts) in
+      signed_rounded x.negative v (scaled x +ℤ scaled y) (negsuc 95) r z
+      (raised_rounded x.negative (x.mantissa * 10 ^ gap - y.mantissa) b y.exponent r is h)
 
-  pub near_less : (x.negative ≡ y.negative → ⊥) → x.mantissa * 10 ^ gap ≤ y.mantissa → IsRounded (record { negative = y.negative; numerator = y.mantissa - x.mantissa * 10 ^ gap; denominator = 1; exponent = y.exponent }) r → IsRounded (total x y) r
+  pub near_less : (x.negative ≡ y.negative → ⊥) → x.mantissa * 10 ^ gap ≤ y.mantissa →
+      IsRounded (record {
+        negative = y.negative;
+        numerator = y.mantissa - x.mantissa * 10 ^ gap;
+        denominator = 1;
+        exponent = y.exponent;
+      }) r → IsRounded (total x y) r
   near_less other less h =
       let (b, is) = base in
       let v : ℕ = (y.mantissa - x.mantissa * 10 ^ gap) * 10 ^ b in
       let less' : x.mantissa * 10 ^ gap * 10 ^ b ≤ y.mantissa * 10 ^ b = mul-le-mul_right (10 ^ b) less in
-      let parts : y.mantissa * 10 ^ b - x.mantissa * 10 ^ gap * 10 ^ b ≡ v = sym (sub_times y.mantissa (x.mantissa * 10 ^ gap) (10 ^ b)) in
+      let parts : y.mantissa * 10 ^ b - x.mantissa * 10 ^ gap * 10 ^ b ≡ v =
+      sym (sub_times y.mantissa (x.mantissa * 10 ^ gap) (10 ^ b)) in
       let z : scaled x +ℤ scaled y ≡ signed y.negative v =
-      rw (scaled_high b is, scaled_is y b is) (signed_less x.negative y.negative (x.mantissa * 10 ^ gap * 10 ^ b) (y.mantissa * 10 ^ b) other less' ∙ ap (signed y.negative) parts) in
-      signed_rounded y.negative v (scaled x +ℤ scaled y) (negsuc 95) r z (raised_rounded y.negative (y.mantissa - x.mantissa * 10 ^ gap) b y.exponent r is h)
+      rw (scaled_high b is, scaled_is y b is)
+      (signed_less x.negative y.negative (x.mantissa * 10 ^ gap * 10 ^ b) (y.mantissa * 10 ^ b) other less'
+      ∙ ap (signed y.negative) parts) in
+      signed_rounded y.negative v (scaled x +ℤ scaled y) (negsuc 95) r z
+      (raised_rounded y.negative (y.mantissa - x.mantissa * 10 ^ gap) b y.exponent r is h)
 
 -- y is above 0, and below one unit of the seventeenth digit of x
-module _ (x y : Decimal) (r : Result Decimal XflFault) (xs : IsXfl x) (ys : IsXfl y) (some_x : 0 < x.mantissa) (some_y : 0 < y.mantissa) (far : (y.exponent +ℤ pos 17) ≤ℤ x.exponent) where
+module _ (x y : Decimal) (r : Result Decimal XflFault) (xs : IsXfl x) (ys : IsXfl y) (some_x : 0 < x.mantissa)
+    (some_y : 0 < y.mantissa) (far : (y.exponent +ℤ pos 17) ≤ℤ x.exponent) where
   -- the exponents of y and of that unit, from the least one on
   bases : (b : ℕ) × (a : ℕ) × (y.exponent +ℤ pos 96 ≡ pos b) × (x.exponent +ℤ pos 96 ≡ pos (a + 1)) × (b + 16 ≤ a)
   bases =
@@ -158,31 +203,46 @@ module _ (x y : Decimal) (r : Result Decimal XflFault) (xs : IsXfl x) (ys : IsXf
       let same : x.mantissa * 10 ^ (a + 1) ≡ x.mantissa * 10 * 10 ^ a = rw (pow-add 10 a 1) (omega arith) in
       scaled_is x (a + 1) is ∙ ap (signed x.negative) same
 
-  pub far_same : x.negative ≡ y.negative → IsRounded (record { negative = x.negative; numerator = x.mantissa * 10; denominator = 1; exponent = x.exponent -ℤ pos 1 }) r → IsRounded (total x y) r
+  pub far_same : x.negative ≡ y.negative →
+      IsRounded
+      (record { negative = x.negative; numerator = x.mantissa * 10; denominator = 1; exponent = x.exponent -ℤ pos 1 })
+      r → IsRounded (total x y) r
   far_same same h =
       let (b, a, is, this, apart) = bases in
       let (positive, under) = small b a apart in
       let v : ℕ = x.mantissa * 10 * 10 ^ a + y.mantissa * 10 ^ b in
-      let low : scaled y ≡ signed x.negative (y.mantissa * 10 ^ b) = scaled_is y b is ∙ ap (λ t. signed t (y.mantissa * 10 ^ b)) (sym same) in
+      let low : scaled y ≡ signed x.negative (y.mantissa * 10 ^ b) =
+      scaled_is y b is ∙ ap (λ t. signed t (y.mantissa * 10 ^ b)) (sym same) in
       let z : scaled x +ℤ scaled y ≡ signed x.negative v =
       rw (scaled_units a this, low) (signed_same x.negative (x.mantissa * 10 * 10 ^ a) (y.mantissa * 10 ^ b)) in
       signed_rounded x.negative v (scaled x +ℤ scaled y) (negsuc 95) r z
-      (floor_rounded x.negative v (x.mantissa * 10) a (x.exponent -ℤ pos 1) r (omega (arith, ints)) (omega (arith, (number_of x xs some_x).low)) (omega (arith, positive)) (omega (arith, under)) h)
+      (floor_rounded x.negative v (x.mantissa * 10) a (x.exponent -ℤ pos 1) r (omega (arith, ints))
+      (omega (arith, (number_of x xs some_x).low)) (omega (arith, positive)) (omega (arith, under)) h)
 
-  pub far_other : (x.negative ≡ y.negative → ⊥) → IsRounded (record { negative = x.negative; numerator = x.mantissa * 10 - 1; denominator = 1; exponent = x.exponent -ℤ pos 1 }) r → IsRounded (total x y) r
+  pub far_other : (x.negative ≡ y.negative → ⊥) →
+      IsRounded (record {
+        negative = x.negative;
+        numerator = x.mantissa * 10 - 1;
+        denominator = 1;
+        exponent = x.exponent -ℤ pos 1;
+      }) r → IsRounded (total x y) r
   far_other other h =
       let (b, a, is, this, apart) = bases in
       let (positive, under) = small b a apart in
       let long = (number_of x xs some_x).low in
       let v : ℕ = x.mantissa * 10 * 10 ^ a - y.mantissa * 10 ^ b in
-      let units : (x.mantissa * 10 - 1) * 10 ^ a + 10 ^ a ≡ x.mantissa * 10 * 10 ^ a = omega (arith, sub_times (x.mantissa * 10) 1 (10 ^ a), mul-le-mul_right (10 ^ a) long) in
+      let units : (x.mantissa * 10 - 1) * 10 ^ a + 10 ^ a ≡ x.mantissa * 10 * 10 ^ a =
+      omega (arith, sub_times (x.mantissa * 10) 1 (10 ^ a), mul-le-mul_right (10 ^ a) long) in
       let z : scaled x +ℤ scaled y ≡ signed x.negative v =
-      rw (scaled_units a this, scaled_is y b is) (signed_more x.negative y.negative (x.mantissa * 10 * 10 ^ a) (y.mantissa * 10 ^ b) other (omega (arith, units, under))) in
+      rw (scaled_units a this, scaled_is y b is) (signed_more x.negative y.negative (x.mantissa * 10 * 10 ^ a)
+      (y.mantissa * 10 ^ b) other (omega (arith, units, under))) in
       signed_rounded x.negative v (scaled x +ℤ scaled y) (negsuc 95) r z
-      (floor_rounded x.negative v (x.mantissa * 10 - 1) a (x.exponent -ℤ pos 1) r (omega (arith, ints)) (omega (arith, long)) (omega (arith, units, under)) (omega (arith, units, positive, under)) h)
+      (floor_rounded x.negative v (x.mantissa * 10 - 1) a (x.exponent -ℤ pos 1) r (omega (arith, ints))
+      (omega (arith, long)) (omega (arith, units, under)) (omega (arith, units, positive, under)) h)
 
 -- in the range the number is the answer
-pub in_ranged : (n : Bool) (m : ℕ) (e : ℤ) → negsuc 95 ≤ℤ e → e ≤ℤ pos 80 → ranged n m e ≡ Ok (record { negative = n; mantissa = m; exponent = e })
+pub in_ranged : (n : Bool) (m : ℕ) (e : ℤ) → negsuc 95 ≤ℤ e → e ≤ℤ pos 80 →
+    ranged n m e ≡ Ok (record { negative = n; mantissa = m; exponent = e })
 in_ranged n m e least greatest = grind (arith, ints)
 
 -- a number of sixteen digits is its own cut
@@ -192,14 +252,17 @@ itself x h = whole_cut x.mantissa x.exponent h.low h.high
 -- a sum with 0
 with_nothing : (x : Decimal) → IsXfl x → IsRounded (whole (scaled x) (negsuc 95)) (Ok x)
 with_nothing x (inl h) =
-    subst (λ t. IsRounded (whole (scaled t) (negsuc 95)) (Ok t)) (sym h) (record { nothing = λ _. refl; something = λ some. absurd (omega (arith, some)) })
+    subst (λ t. IsRounded (whole (scaled t) (negsuc 95)) (Ok t)) (sym h)
+    (record { nothing = λ _. refl; something = λ some. absurd (omega (arith, some)) })
 with_nothing x (inr h) =
     let (b, is) = place_of x.exponent h.least in
     signed_rounded x.negative (x.mantissa * 10 ^ b) (scaled x) (negsuc 95) (Ok x) (scaled_is x b is)
     (raised_rounded x.negative x.mantissa b x.exponent (Ok x) is
     (record {
       nothing = λ z. absurd (omega (arith, h.low));
-      something = λ _. (x.mantissa, x.exponent, itself x h, sym (in_ranged x.negative x.mantissa x.exponent h.least h.greatest));
+      something =
+          λ _.
+          (x.mantissa, x.exponent, itself x h, sym (in_ranged x.negative x.mantissa x.exponent h.least h.greatest));
     }))
 
 pub nothing_left : (x y : Decimal) → IsXfl y → x ≡ nought → IsRounded (total x y) (Ok y)

@@ -18,7 +18,9 @@ too_big : (n : ℕ) → 2 ^ 63 - 1 < n → fitted n ≡ Err TooBig
 too_big n h = grind (arith, nat_tests)
 
 pub all_added : (m d : ℕ) → 0 < m → 22 < d → fitted (m * 10 ^ d) ≡ Err TooBig
-all_added m d some many = too_big (m * 10 ^ d) (omega (arith, mul-le-mul {n₁ = 1} {m₁ = 10 ^ 22} {n₂ = m} {m₂ = 10 ^ d} some (ten_rises 22 d (omega arith))))
+all_added m d some many =
+    too_big (m * 10 ^ d)
+    (omega (arith, mul-le-mul {n₁ = 1} {m₁ = 10 ^ 22} {n₂ = m} {m₂ = 10 ^ d} some (ten_rises 22 d (omega arith))))
 
 pub few_added : (m d : ℕ) → m < 10 ^ 16 → d ≤ 22 → m * 10 ^ d < 2 ^ 128
 few_added m d short few =

@@ -1,5 +1,6 @@
 -- Numbers cut toward zero to sixteen digits (this project's own). Numbers have no limit here.
-use Rattle.std.specs.Prelude.{zero, suc, ◌/◌, pos, ◌+ℤ◌, nat_lt, if◌then◌else◌, ◌==◌, Bool, ℕ, ◌≡◌, ◌+◌, ◌*◌, ◌^◌, ◌<◌, ◌≤◌, ℤ, ◌-ℤ◌}
+use Rattle.std.specs.Prelude.{zero, suc, ◌/◌, pos, ◌+ℤ◌, nat_lt, if◌then◌else◌, ◌==◌, Bool, ℕ, ◌≡◌, ◌+◌, ◌*◌, ◌^◌, ◌<◌}
+use Rattle.std.specs.Prelude.{◌≤◌, ℤ, ◌-ℤ◌}
 use Rattle.xfl.specs.Value.{tens}
 
 -- m * 10 ^ e is p / q * 10 ^ k, cut toward zero to sixteen digits:

@@ -1,5 +1,6 @@
 -- What each operation on decimals answers: the exact result, cut, then the range rule (this project's own).
-use Rattle.std.specs.Prelude.{ℕ, ◌+◌, ◌-◌, ◌*◌, ◌/◌, ◌^◌, ◌==◌, ◌&&◌, nat_lt, Bool, true, false, not, ℤ, pos, negsuc, neg_ℤ, ◌+ℤ◌, ◌-ℤ◌, unsigned_abs, int_lt, if◌then◌else◌, Result, Ok, Err}
+use Rattle.std.specs.Prelude.{ℕ, ◌+◌, ◌-◌, ◌*◌, ◌/◌, ◌^◌, ◌==◌, ◌&&◌, nat_lt, Bool, true, false, not, ℤ, pos, negsuc}
+use Rattle.std.specs.Prelude.{neg_ℤ, ◌+ℤ◌, ◌-ℤ◌, unsigned_abs, int_lt, if◌then◌else◌, Result, Ok, Err}
 use Rattle.xfl.specs.declared.fault.XflFault.{XflFault}
 use Rattle.xfl.specs.declared.fault.XflFault.TheVariants.{DivisionByZero, Overflow, BadPlaces, Negative, TooBig}
 use Rattle.xfl.specs.Value.{Decimal, nought, scaled, tens}

@@ -18,9 +18,12 @@ exact_of of = record {
 -- some cut of the exact result gives the answer, by the range rule
 pub record IsRounded (exact : Exact) (result : Result Decimal XflFault) : Type 0 where
   pub nothing : exact.numerator ≡ 0 → result ≡ Ok nought
-  pub something : 0 < exact.numerator → (m : ℕ) × (e : ℤ) × IsCut exact.numerator exact.denominator exact.exponent m e × (result ≡ ranged exact.negative m e)
+  pub something : 0 < exact.numerator →
+      (m : ℕ) × (e : ℤ) × IsCut exact.numerator exact.denominator exact.exponent m e
+      × (result ≡ ranged exact.negative m e)
 
--- the answer is the exact result itself where it has sixteen digits, else the next greater number that has, then the range rule
+-- the answer is the exact result itself where it has sixteen digits, else the next greater number that has, then the
+-- range rule
 pub record IsRoundedUp (exact : Exact) (result : Result Decimal XflFault) : Type 0 where
   pub nothing : exact.numerator ≡ 0 → result ≡ Ok nought
   pub something : 0 < exact.numerator → (m : ℕ) × (e : ℤ) × IsCut exact.numerator exact.denominator exact.exponent m e

@@ -1,5 +1,6 @@
 -- The values of an XFL, the ledger's decimal number (this project's own, after the XFL of the XRPL Hooks).
-use Rattle.std.specs.Prelude.{ℕ, ◌≡◌, ◌*◌, ◌^◌, ◌<◌, ◌≤◌, ◌⊎◌, ◌==◌, Bool, false, not, ℤ, pos, negsuc, neg_ℤ, ◌+ℤ◌, ◌-ℤ◌, ◌≤ℤ◌, ◌/◌, ◌%◌, unsigned_abs, if◌then◌else◌}
+use Rattle.std.specs.Prelude.{ℕ, ◌≡◌, ◌*◌, ◌^◌, ◌<◌, ◌≤◌, ◌⊎◌, ◌==◌, Bool, false, not, ℤ, pos, negsuc, neg_ℤ, ◌+ℤ◌}
+use Rattle.std.specs.Prelude.{◌-ℤ◌, ◌≤ℤ◌, ◌/◌, ◌%◌, unsigned_abs, if◌then◌else◌}
 use Rattle.xo_fields.specs.Decimal.{decimal_bits, IsDecimal}
 
 -- a decimal is mantissa * 10 ^ exponent, with a sign
@@ -58,7 +59,11 @@ IsXflBits bits = (number : ℕ) × (bits ≡ pos number) × IsDecimal number
 abbrev pub decimal_of : ℤ → Decimal
 decimal_of (pos bits) =
     if bits == 0 then nought
-    else record { negative = bits / 2 ^ 62 == 0; mantissa = bits % 2 ^ 54; exponent = pos (bits / 2 ^ 54 % 256) -ℤ pos 97 }
+    else record {
+      negative = bits / 2 ^ 62 == 0;
+      mantissa = bits % 2 ^ 54;
+      exponent = pos (bits / 2 ^ 54 % 256) -ℤ pos 97;
+    }
 decimal_of (negsuc bits) = nought
 
 -- the bits of an XFL are an XFL's, and give it back

@@ -1,6 +1,7 @@
 ghost use Rattle.std.specs.Prelude.{◌≡◌, ◌+◌, ◌*◌, ◌/◌, ◌^◌, ◌<◌, ◌≤◌, ◌≤ℤ◌, ◌-ℤ◌, ◌+ℤ◌, pos, negsuc, IsTrue, IsFalse};
 ghost use Rattle.xfl.specs.Value.{one};
-ghost use Rattle.xfl.specs.Operations.{whole, product, total, rounded, divided, ratio_of, to_int_of, whole_part, fitted};
+ghost use Rattle.xfl.specs.Operations.{whole, product, total, rounded, divided, ratio_of, to_int_of, whole_part};
+ghost use Rattle.xfl.specs.Operations.{fitted};
 ghost use Rattle.xfl.specs.Steps.{IsRounded};
 
 use crate::fault::XflFault;

@@ -113,7 +113,8 @@ pub(crate) fn in_range(negative: bool, mantissa: u64, exponent: i64) -> Result<X
 pub(crate) fn rounded(negative: bool, whole: u128, exponent: i64) -> Result<Xfl, XflFault>
     requires least { negsuc (2 ^ 40) ≤ℤ exponent }
     requires greatest { exponent ≤ℤ pos (2 ^ 40) }
-    ensures { IsRounded (record { negative = negative; numerator = whole; denominator = 1; exponent = exponent }) result }
+    ensures { IsRounded (record { negative = negative; numerator = whole; denominator = 1; exponent = exponent })
+        result }
 {
     if whole == 0 {
         return Ok(ZERO);

@@ -15,8 +15,10 @@ IsField bytes field = (value : List ℕ) × IsOne bytes field value
 -- the object with the field put in its place
 abbrev pub Emplaces : List ℕ → List ℕ → FieldId → List ℕ → Type 0
 Emplaces bytes put field edited =
-    (items : List Item) × (value : List ℕ) × IsObject items bytes × IsOne put field value × IsObject (with_item (record { field = field; value = value }) items) edited
+    (items : List Item) × (value : List ℕ) × IsObject items bytes × IsOne put field value
+    × IsObject (with_item (record { field = field; value = value }) items) edited
 
 -- the object without the field, which it had
 abbrev pub Erases : List ℕ → FieldId → List ℕ → Type 0
-Erases bytes field edited = (items : List Item) × IsObject items bytes × IsSome (lookup field items) × IsObject (without field items) edited
+Erases bytes field edited =
+    (items : List Item) × IsObject items bytes × IsSome (lookup field items) × IsObject (without field items) edited

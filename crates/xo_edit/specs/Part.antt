@@ -11,9 +11,11 @@ use Rattle.xo_list.specs.Value.{IsObject, IsArray}
 -- the object has the field, and its value stands there, behind the fields before, its header and its length
 abbrev pub IsFieldAt : List ℕ → FieldId → Span → Type 0
 IsFieldAt bytes field span =
-    (before : List Item) × (after : List Item) × (value : List ℕ) × IsObject (before ++ record { field = field; value = value } ∷ after) bytes
+    (before : List Item) × (after : List Item) × (value : List ℕ)
+    × IsObject (before ++ record { field = field; value = value } ∷ after) bytes
     × (lookup field (before ++ record { field = field; value = value } ∷ after) ≡ Some value)
-    × (take span.from bytes ≡ spell before ++ (header field ++ lead (form_at field.kind) value)) × (part bytes span.from span.to ≡ value)
+    × (take span.from bytes ≡ spell before ++ (header field ++ lead (form_at field.kind) value))
+    × (part bytes span.from span.to ≡ value)
     × (span.from ≤ span.to) × (span.to ≤ length bytes)
 
 -- an object without the field
@@ -23,7 +25,8 @@ LacksField bytes field = (items : List Item) × IsObject items bytes × (lookup 
 -- the array has so many elements before this one, which stands there as it is spelled
 abbrev pub IsElementAt : List ℕ → ℕ → Span → Type 0
 IsElementAt bytes index span =
-    (before : List Item) × (after : List Item) × (element : Item) × IsArray (before ++ element ∷ after) bytes × (length before ≡ index)
+    (before : List Item) × (after : List Item) × (element : Item) × IsArray (before ++ element ∷ after) bytes
+    × (length before ≡ index)
     × (take span.from bytes ≡ spell before) × (part bytes span.from span.to ≡ spell (element ∷ []))
     × (span.from ≤ span.to) × (span.to ≤ length bytes)
 

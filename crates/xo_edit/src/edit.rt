@@ -23,7 +23,8 @@ pub fn emplace(
 ) -> Result<Vec<u8>, EditFault>
     ensures emplaced { IfOk result (λ edited. Emplaces bytes.now put.now field edited.items) }
     ensures too_big { (result ≡ Err EditFault.TooBig) ↔ ((16384 < length bytes.now) ⊎ (4096 < length put.now)) }
-    ensures parse_error { (result ≡ Err EditFault.ParseError) ↔ ((length bytes.now ≤ 16384) × (length put.now ≤ 4096) × (HasFields bytes.now × IsField put.now field → ⊥)) }
+    ensures parse_error { (result ≡ Err EditFault.ParseError)
+        ↔ ((length bytes.now ≤ 16384) × (length put.now ≤ 4096) × (HasFields bytes.now × IsField put.now field → ⊥)) }
     ensures doesnt_exist { result ≡ Err EditFault.DoesntExist → ⊥ }
 {
     if bytes.len() > LONGEST_OBJECT {
@@ -45,8 +46,10 @@ pub fn emplace(
 pub fn erase(alloc: Global, bytes: &[u8], field: FieldId) -> Result<Vec<u8>, EditFault>
     ensures erased { IfOk result (λ edited. Erases bytes.now field edited.items) }
     ensures too_big { (result ≡ Err EditFault.TooBig) ↔ (16384 < length bytes.now) }
-    ensures parse_error { (result ≡ Err EditFault.ParseError) ↔ ((length bytes.now ≤ 16384) × (HasFields bytes.now → ⊥)) }
-    ensures doesnt_exist { (result ≡ Err EditFault.DoesntExist) ↔ ((length bytes.now ≤ 16384) × LacksField bytes.now field) }
+    ensures parse_error { (result ≡ Err EditFault.ParseError)
+        ↔ ((length bytes.now ≤ 16384) × (HasFields bytes.now → ⊥)) }
+    ensures doesnt_exist { (result ≡ Err EditFault.DoesntExist)
+        ↔ ((length bytes.now ≤ 16384) × LacksField bytes.now field) }
 {
     one_reading();
     one_spelling();

@@ -1,12 +1,14 @@
 -- Cases on a test, for a fact of the answer, and what an option has.
-use Rattle.std.proofs.Common.{◌≡◌, ℕ, Bool, true, false, if◌then◌else◌, refl, List, get_or, ◌<◌, ◌≤◌, ◌==◌, nat_lt, nat_eq, IsTrue, arith, Some, None}
+use Rattle.std.proofs.Common.{◌≡◌, ℕ, Bool, true, false, if◌then◌else◌, refl, List, get_or, ◌<◌, ◌≤◌, ◌==◌, nat_lt}
+use Rattle.std.proofs.Common.{nat_eq, IsTrue, arith, Some, None}
 use Rattle.std.proofs.lemmas.Bool.Decides.{nat_tests}
 
 -- each item of the list is a byte
 abbrev pub IsBytes : List ℕ → Type 0
 IsBytes bytes = (i : ℕ) → get_or bytes i 0 < 256
 
-pub pick : {A : Type 0} (P : A → Type 0) (b : Bool) (x y : A) → (b ≡ true → P x) → (b ≡ false → P y) → P (if b then x else y)
+pub pick : {A : Type 0} (P : A → Type 0) (b : Bool) (x y : A) → (b ≡ true → P x) → (b ≡ false → P y) →
+    P (if b then x else y)
 pick P true x y yes_case no_case = yes_case refl
 pick P false x y yes_case no_case = no_case refl
 
@@ -26,10 +28,13 @@ equal_from m n e = grind (arith, nat_tests)
 other_from : (m n : ℕ) → (m == n) ≡ false → m ≡ n → ⊥
 other_from m n e = grind (arith, nat_tests)
 
-pub pick_below : {A : Type 0} (P : A → Type 0) (m n : ℕ) (x y : A) → (m < n → P x) → (n ≤ m → P y) → P (if nat_lt m n then x else y)
-pick_below P m n x y below above = pick P (nat_lt m n) x y (λ e. below (below_from m n e)) (λ e. above (above_from m n e))
+pub pick_below : {A : Type 0} (P : A → Type 0) (m n : ℕ) (x y : A) → (m < n → P x) → (n ≤ m → P y) →
+    P (if nat_lt m n then x else y)
+pick_below P m n x y below above =
+    pick P (nat_lt m n) x y (λ e. below (below_from m n e)) (λ e. above (above_from m n e))
 
-pub pick_equal : {A : Type 0} (P : A → Type 0) (m n : ℕ) (x y : A) → (m ≡ n → P x) → ((m ≡ n → ⊥) → P y) → P (if m == n then x else y)
+pub pick_equal : {A : Type 0} (P : A → Type 0) (m n : ℕ) (x y : A) → (m ≡ n → P x) → ((m ≡ n → ⊥) → P y) →
+    P (if m == n then x else y)
 pick_equal P m n x y same other = pick P (m == n) x y (λ e. same (equal_from m n e)) (λ e. other (other_from m n e))
 
 pub same_size : (m n : ℕ) → IsTrue (nat_eq m n) → m ≡ n

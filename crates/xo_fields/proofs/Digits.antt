@@ -1,5 +1,6 @@
 -- Numbers of bytes, the highest first.
-use Rattle.std.proofs.Common.{◌≡◌, ℕ, zero, suc, ◌+◌, ◌*◌, ◌/◌, ◌%◌, ◌<◌, ◌≤◌, ◌^◌, List, [], ◌∷◌, ◌++◌, length, replicate, refl, sym, ap, ◌∙◌, arith, length-append}
+use Rattle.std.proofs.Common.{◌≡◌, ℕ, zero, suc, ◌+◌, ◌*◌, ◌/◌, ◌%◌, ◌<◌, ◌≤◌, ◌^◌, List, [], ◌∷◌, ◌++◌, length}
+use Rattle.std.proofs.Common.{replicate, refl, sym, ap, ◌∙◌, arith, length-append}
 use Rattle.std.specs.Int.{w64, to_be_bytes, from_be_bytes}
 use Rattle.std.proofs.Math.Nat.{div-lt_iff_lt-mul, mul-le-mul_right}
 use Rattle.std.proofs.lemmas.Nat.{be_bytes_8, from_be_bytes-to_be_bytes_8}
@@ -24,8 +25,11 @@ span-add (suc m) n =
 pub value-append : (p q : List ℕ) → value (p ++ q) ≡ value p * span (length q) + value q
 value-append [] q = omega arith
 value-append (b ∷ bs) q =
-    let l : span (length (bs ++ q)) ≡ span (length bs) * span (length q) = ap span (length-append bs q) ∙ span-add (length bs) (length q) in
-    ap (λ x. b * x + value (bs ++ q)) l ∙ ap (λ x. b * (span (length bs) * span (length q)) + x) (value-append bs q) ∙ omega arith
+    let l : span (length (bs ++ q)) ≡ span (length bs) * span (length q) =
+    ap span (length-append bs q) ∙ span-add (length bs) (length q) in
+    ap (λ x. b * x + value (bs ++ q)) l
+    ∙ ap (λ x. b * (span (length bs) * span (length q)) + x) (value-append bs q)
+    ∙ omega arith
 
 pub span-pos : (k : ℕ) → 0 < span k
 span-pos zero = omega arith
@@ -36,7 +40,8 @@ pub value-below : (q : List ℕ) → IsBytes q → value q < span (length q)
 value-below [] small = omega arith
 value-below (b ∷ bs) small =
     let bb : b < 256 = small 0 in let more : value bs < span (length bs) = value-below bs (λ i. small (suc i)) in
-    let top : b * span (length bs) ≤ 255 * span (length bs) = mul-le-mul_right (span (length bs)) (omega arith) in omega arith
+    let top : b * span (length bs) ≤ 255 * span (length bs) = mul-le-mul_right (span (length bs)) (omega arith) in
+    omega arith
 
 pub value-zeros : (k : ℕ) → value (replicate k 0) ≡ 0
 value-zeros zero = refl
@@ -45,7 +50,9 @@ value-zeros (suc k) = omega (arith, value-zeros k)
 pub value-greatest : (k : ℕ) → value (replicate k 255) + 1 ≡ span k
 value-greatest zero = refl
 value-greatest (suc k) =
-    let l : 255 * span (length (replicate {A = ℕ} k 255)) ≡ 255 * span k = ap (λ n. 255 * span n) (length-replicate {A = ℕ} k 255) in omega (arith, value-greatest k)
+    let l : 255 * span (length (replicate {A = ℕ} k 255)) ≡ 255 * span k =
+    ap (λ n. 255 * span n) (length-replicate {A = ℕ} k 255) in
+    omega (arith, value-greatest k)
 
 -- each number below the span has its bytes
 pub digits : (k w : ℕ) → w < span k → (q : List ℕ) × (length q ≡ k) × IsBytes q × (value q ≡ w)
@@ -53,8 +60,12 @@ digits zero w h = ([], refl, λ i. omega arith, omega arith)
 digits (suc k) w h =
     let pos : 0 < span k = span-pos k in
     let rest : _ = digits k (w % span k) (omega arith) in
-    let first : w / span k < 256 = (div-lt_iff_lt-mul pos).1 (omega arith) in
-    (w / span k ∷ rest.0, ap suc rest.1, small rest.0 rest.2 first, ap (λ n. w / span k * span n + value rest.0) rest.1 ∙ omega (arith, rest.3))
+    let first : w / span k < 256 = (div-lt_iff_lt-mul pos).1 (omega arith) in (
+      w / span k ∷ rest.0,
+      ap suc rest.1,
+      small rest.0 rest.2 first,
+      ap (λ n. w / span k * span n + value rest.0) rest.1 ∙ omega (arith, rest.3),
+    )
   where
     small : (q : List ℕ) → IsBytes q → w / span k < 256 → IsBytes (w / span k ∷ q)
     small q s f zero = f

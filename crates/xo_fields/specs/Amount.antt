@@ -11,7 +11,8 @@ use Rattle.xo_fields.specs.Spelling.{IsCut, IsBad}
 -- drops below 2^62, or a decimal of a currency's issuer
 abbrev pub IsValid : Amount → Type 0
 IsValid (Native drops) = drops < 2 ^ 62
-IsValid (Issued value currency issuer) = ((bits : ℕ) × (value ≡ pos bits) × IsDecimal bits) × (length currency ≡ 20) × (length issuer ≡ 20)
+IsValid (Issued value currency issuer) =
+    ((bits : ℕ) × (value ≡ pos bits) × IsDecimal bits) × (length currency ≡ 20) × (length issuer ≡ 20)
 
 -- the bytes of an amount: eight with first bits 01 and then the drops, or
 -- eight with first bit 1 and then the decimal, its currency and its issuer

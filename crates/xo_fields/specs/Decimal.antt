@@ -16,4 +16,5 @@ pub record IsDecimalOf (bits positive biased mantissa : ℕ) : Type 0 where
 
 -- the bits are those of a decimal
 abbrev pub IsDecimal : ℕ → Type 0
-IsDecimal bits = (bits ≡ 0) ⊎ ((positive : ℕ) × (biased : ℕ) × (mantissa : ℕ) × IsDecimalOf bits positive biased mantissa)
+IsDecimal bits =
+    (bits ≡ 0) ⊎ ((positive : ℕ) × (biased : ℕ) × (mantissa : ℕ) × IsDecimalOf bits positive biased mantissa)

@@ -1,5 +1,6 @@
 -- Headers of fields (xrpl.org, "Serialization Format", Field IDs).
-use Rattle.std.specs.Prelude.{◌≡◌, ℕ, ◌+◌, ◌*◌, ◌<◌, ◌≤◌, ◌⊎◌, List, [], ◌∷◌, ◌++◌, length, take, if◌then◌else◌, nat_lt, None, IsSome}
+use Rattle.std.specs.Prelude.{◌≡◌, ℕ, ◌+◌, ◌*◌, ◌<◌, ◌≤◌, ◌⊎◌, List, [], ◌∷◌, ◌++◌, length, take, if◌then◌else◌, nat_lt}
+use Rattle.std.specs.Prelude.{None, IsSome}
 use Rattle.xo_fields.specs.declared.field.FieldId.{FieldId}
 use Rattle.xo_fields.specs.declared.header.HeaderRead.{HeaderRead}
 use Rattle.xo_fields.specs.declared.header.HeaderRead.TheVariants.{Cut, Bad, Header}
@@ -27,5 +28,8 @@ IsHeader bytes = (f : FieldId) × IsField f × (bytes ≡ header f)
 -- what stands at the front of the bytes; a spelling is looked at before its kind
 abbrev pub HeaderGives : List ℕ → HeaderRead → Type 0
 HeaderGives bytes Cut = IsCut IsHeader bytes
-HeaderGives bytes Bad = IsBad IsHeader bytes ⊎ ((f : FieldId) × (rest : List ℕ) × IsField f × (form_at f.kind ≡ None) × (bytes ≡ header f ++ rest))
-HeaderGives bytes (Header f size) = IsField f × IsSome (form_at f.kind) × (size ≤ length bytes) × (take size bytes ≡ header f)
+HeaderGives bytes Bad =
+    IsBad IsHeader bytes
+    ⊎ ((f : FieldId) × (rest : List ℕ) × IsField f × (form_at f.kind ≡ None) × (bytes ≡ header f ++ rest))
+HeaderGives bytes (Header f size) =
+    IsField f × IsSome (form_at f.kind) × (size ≤ length bytes) × (take size bytes ≡ header f)

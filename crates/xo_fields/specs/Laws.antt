@@ -16,7 +16,9 @@ abbrev pub OneLength : Type 0
 OneLength = (m n : ℕ) (x y : List ℕ) → m ≤ 918744 → n ≤ 918744 → prefix m ++ x ≡ prefix n ++ y → (m ≡ n) × (x ≡ y)
 
 abbrev pub OneAmount : Type 0
-OneAmount = (a b : Amount) (x y : List ℕ) → IsValid a → IsValid b → amount_bytes a ++ x ≡ amount_bytes b ++ y → (a ≡ b) × (x ≡ y)
+OneAmount =
+    (a b : Amount) (x y : List ℕ) → IsValid a → IsValid b → amount_bytes a ++ x ≡ amount_bytes b ++ y →
+    (a ≡ b) × (x ≡ y)
 
 abbrev pub OneHeaderRead : Type 0
 OneHeaderRead = (bytes : List ℕ) (r s : HeaderRead) → HeaderGives bytes r → HeaderGives bytes s → r ≡ s

@@ -1,5 +1,7 @@
--- What the readers' private helpers answer, by cases on the first bytes. Public clauses use it through hk_reading's `reading` alone, which a law ties to the relation.
-use Rattle.std.specs.Prelude.{ℕ, ◌+◌, ◌-◌, ◌*◌, ◌/◌, ◌%◌, ◌==◌, ◌&&◌, List, [], ◌∷◌, if◌then◌else◌, nat_lt, nat_le, Option, Some, None}
+-- What the readers' private helpers answer, by cases on the first bytes. Public clauses use it through hk_reading's
+-- `reading` alone, which a law ties to the relation.
+use Rattle.std.specs.Prelude.{ℕ, ◌+◌, ◌-◌, ◌*◌, ◌/◌, ◌%◌, ◌==◌, ◌&&◌, List, [], ◌∷◌, if◌then◌else◌, nat_lt, nat_le}
+use Rattle.std.specs.Prelude.{Option, Some, None}
 use Rattle.xo_fields.specs.declared.header.HeaderRead.{HeaderRead}
 use Rattle.xo_fields.specs.declared.header.HeaderRead.TheVariants.{Cut, Bad, Header}
 use Rattle.xo_fields.specs.declared.length.LengthRead.{LengthRead}
@@ -65,4 +67,6 @@ least_of positive biased mantissa =
     (if positive == 0 then Some (decimal_bits 1 1 1000000000000000) else None)
 
 abbrev pub least : ℕ → Option ℕ
-least low = if low == 0 then Some 0 else least_of (low / 4611686018427387904) (low / 18014398509481984 % 256) (low % 18014398509481984)
+least low =
+    if low == 0 then Some 0
+    else least_of (low / 4611686018427387904) (low / 18014398509481984 % 256) (low % 18014398509481984)

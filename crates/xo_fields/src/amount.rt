@@ -1,4 +1,5 @@
-ghost use Rattle.std.specs.Prelude.{◌≡◌, ◌+◌, ◌-◌, ◌≤◌, ◌<◌, ◌^◌, ◌==◌, ◌++◌, if◌then◌else◌, length, take, drop, replicate, slice_index};
+ghost use Rattle.std.specs.Prelude.{◌≡◌, ◌+◌, ◌-◌, ◌≤◌, ◌<◌, ◌^◌, ◌==◌, ◌++◌, if◌then◌else◌, length, take, drop};
+ghost use Rattle.std.specs.Prelude.{replicate, slice_index};
 ghost use Rattle.std.specs.Int.{w64, from_be_bytes};
 ghost use Rattle.xo_fields.specs.Amount.{amount_bytes, IsValid, AmountGives};
 ghost use Rattle.xo_fields.specs.Decimal.{decimal_bits};

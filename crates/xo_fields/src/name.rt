@@ -1,6 +1,7 @@
 ghost use Rattle.std.specs.Prelude.{◌≡◌};
 ghost use Rattle.xo_fields.specs.Name.{field_named, code_named, named_among, kinds};
-ghost use Rattle.xo_fields.specs.Name.{uint16_names, uint32_names, uint64_names, hash256_names, amount_names, blob_names, account_id_names, object_names, array_names};
+ghost use Rattle.xo_fields.specs.Name.{uint16_names, uint32_names, uint64_names, hash256_names, amount_names};
+ghost use Rattle.xo_fields.specs.Name.{blob_names, account_id_names, object_names, array_names};
 
 use crate::field::FieldId;
 

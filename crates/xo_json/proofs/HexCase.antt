@@ -1,9 +1,11 @@
 -- A text in hex digits of either case has these bytes exactly where it is their text, up to the case of letters.
-use Rattle.std.proofs.Common.{◌≡◌, ℕ, suc, zero, ◌+◌, ◌*◌, ◌/◌, ◌%◌, ◌<◌, List, [], ◌∷◌, map, Option, Some, None, refl, sym, ◌∙◌, arith, if◌then◌else◌, nat_lt}
+use Rattle.std.proofs.Common.{◌≡◌, ℕ, suc, zero, ◌+◌, ◌*◌, ◌/◌, ◌%◌, ◌<◌, List, [], ◌∷◌, map, Option, Some, None, refl}
+use Rattle.std.proofs.Common.{sym, ◌∙◌, arith, if◌then◌else◌, nat_lt}
 use Rattle.std.proofs.lemmas.Bool.Decides.{nat_tests}
 use Rattle.hk_base.specs.Hexadecimal.{digit_value, pair_value, all_of, hex_bytes, lower_digit, hex_text}
 use Rattle.xo_showing.specs.Bytes.{AreBytes}
 use Rattle.xo_showing.specs.Shows.{lower}
+use Rattle.xo_told.proofs.SpelledBytes.{more_bytes}
 
 -- the sixteen digits
 digit_is : (n : ℕ) → n < 16 → lower_digit n ≡ (if nat_lt n 10 then 48 + n else 87 + n)
@@ -23,7 +25,8 @@ digit_is (suc (suc (suc (suc (suc (suc (suc (suc (suc (suc (suc (suc zero)))))))
 digit_is (suc (suc (suc (suc (suc (suc (suc (suc (suc (suc (suc (suc (suc zero))))))))))))) h = refl
 digit_is (suc (suc (suc (suc (suc (suc (suc (suc (suc (suc (suc (suc (suc (suc zero)))))))))))))) h = refl
 digit_is (suc (suc (suc (suc (suc (suc (suc (suc (suc (suc (suc (suc (suc (suc (suc zero))))))))))))))) h = refl
-digit_is (suc (suc (suc (suc (suc (suc (suc (suc (suc (suc (suc (suc (suc (suc (suc (suc n)))))))))))))))) h = absurd (omega arith)
+digit_is (suc (suc (suc (suc (suc (suc (suc (suc (suc (suc (suc (suc (suc (suc (suc (suc n)))))))))))))))) h =
+    absurd (omega arith)
 
 digit_shown : (c n : ℕ) → digit_value c ≡ Some n → (n < 16) × (lower c ≡ (if nat_lt n 10 then 48 + n else 87 + n))
 digit_shown c n h = grind (arith, nat_tests)
@@ -52,10 +55,6 @@ all_is None rest bytes e = cc e
 all_is (Some b) None bytes e = cc e
 all_is (Some b) (Some bs) bytes e = (b, bs, refl, refl, cc e)
 
-bytes_more : (b : ℕ) (bs : List ℕ) → b < 256 → AreBytes bs → AreBytes (b ∷ bs)
-bytes_more b bs small rest zero = small
-bytes_more b bs small rest (suc index) = rest index
-
 -- the bytes of a text are bytes, and their text is the text in lower case
 pub hex_sound : (text bytes : List ℕ) → hex_bytes text ≡ Some bytes → AreBytes bytes × (map lower text ≡ hex_text bytes)
 hex_sound [] [] h = (λ index. omega arith, refl)
@@ -72,9 +71,11 @@ hex_sound (high ∷ low ∷ text) (b ∷ bs) h =
     let tail : bs ≡ all.1 = cc (all.4) in
     let up : pair.0 ≡ b / 16 = omega (arith, is, first.0, second.0) in
     let down : pair.1 ≡ b % 16 = omega (arith, is, first.0, second.0) in
-    rw (tail, ← up, ← down) (bytes_more b all.1 (omega (arith, is, first.0, second.0)) rest.0, λ i. first.1 i ∷ second.1 i ∷ rest.1 i)
+    rw (tail, ← up, ← down)
+    (more_bytes b all.1 (omega (arith, is, first.0, second.0)) rest.0, λ i. first.1 i ∷ second.1 i ∷ rest.1 i)
 
-pub hex_complete : (text bytes : List ℕ) → AreBytes bytes → map lower text ≡ hex_text bytes → hex_bytes text ≡ Some bytes
+pub hex_complete : (text bytes : List ℕ) → AreBytes bytes → map lower text ≡ hex_text bytes →
+    hex_bytes text ≡ Some bytes
 hex_complete [] [] small h = refl
 hex_complete [] (b ∷ bs) small h = cc h
 hex_complete (high ∷ []) [] small h = cc h

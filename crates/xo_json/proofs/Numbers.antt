@@ -1,10 +1,12 @@
 -- What a value is that holds no fields.
-use Rattle.std.proofs.Common.{◌≡◌, ℕ, zero, suc, ◌+◌, ◌-◌, ◌<◌, ◌≤◌, ◌^◌, List, ◌++◌, length, take, drop, replicate, map, sym, ap, ◌∙◌, arith, Some, None, length-drop, length-append}
+use Rattle.std.proofs.Common.{◌≡◌, ℕ, zero, suc, ◌+◌, ◌-◌, ◌<◌, ◌≤◌, ◌^◌, List, ◌++◌, length, take, drop, replicate}
+use Rattle.std.proofs.Common.{map, sym, ap, ◌∙◌, arith, Some, None, length-drop, length-append}
 use Rattle.std.specs.Option.{option_and_then}
 use Rattle.std.specs.Int.{w64, to_be_bytes, from_be_bytes}
 use Rattle.std.proofs.lemmas.List.{take-append-drop, take_at, length-replicate, get_or-drop}
 use Rattle.std.proofs.lemmas.Nat.{from_be_bytes-to_be_bytes_8, be_bytes_8}
-use Rattle.serde_json.specs.Data.{Data, null, boolean, number, string, array, object, unsigned, negative, float, Items, Members}
+use Rattle.serde_json.specs.Data.{Data, null, boolean, number, string, array, object, unsigned, negative, float, Items}
+use Rattle.serde_json.specs.Data.{Members}
 use Rattle.serde_json.specs.Find.{as_str, as_number, as_u64, as_object, as_array}
 use Rattle.xo_fields.proofs.Digits.{small-to_be_bytes}
 use Rattle.xo_showing.specs.Bytes.{AreBytes, number_of_bytes}
@@ -50,12 +52,6 @@ no_object (string s) ms e h = cc h
 no_object (array ds) ms e h = cc h
 no_object (object ns) ms e h = cc e
 
-pub one_object : (ms ns : Members) → object ms ≡ object ns → ms ≡ ns
-one_object ms ns e = cc e
-
-pub one_array : (ds es : Items) → array ds ≡ array es → ds ≡ es
-one_array ds es e = cc e
-
 pub array_is : (d : Data) (ds : Items) → as_array d ≡ Some ds → d ≡ array ds
 array_is null ds e = cc e
 array_is (boolean b) ds e = cc e
@@ -86,9 +82,6 @@ no_number (string s) n e h = cc h
 no_number (array ds) n e h = cc h
 no_number (object ms) n e h = cc h
 
-pub same_number : (m n : ℕ) → number (unsigned m) ≡ number (unsigned n) → m ≡ n
-same_number m n e = cc e
-
 zeros_small : (n : ℕ) (value : List ℕ) → AreBytes value → AreBytes (replicate n 0 ++ value)
 zeros_small zero value small index = small index
 zeros_small (suc n) value small zero = omega arith
@@ -102,16 +95,21 @@ module _ (n size : ℕ) (few : size ≤ 4) where
   pub last_length : length (drop (8 - size) (to_be_bytes w64 n)) ≡ size
   last_length = omega (arith, length-drop (8 - size) (to_be_bytes w64 n))
 
-  pub last_number : n < 2 ^ 64 → take (8 - size) (to_be_bytes w64 n) ≡ replicate (8 - size) 0 → number_of_bytes (drop (8 - size) (to_be_bytes w64 n)) ≡ n
+  pub last_number : n < 2 ^ 64 → take (8 - size) (to_be_bytes w64 n) ≡ replicate (8 - size) 0 →
+      number_of_bytes (drop (8 - size) (to_be_bytes w64 n)) ≡ n
   last_number small zeros =
       ap (λ k. from_be_bytes w64 (replicate (8 - k) 0 ++ drop (8 - size) (to_be_bytes w64 n))) last_length
       ∙ ap (λ front. from_be_bytes w64 (front ++ drop (8 - size) (to_be_bytes w64 n))) (sym zeros)
       ∙ ap (from_be_bytes w64) (take-append-drop (8 - size) (to_be_bytes w64 n)) ∙ from_be_bytes-to_be_bytes_8 n small
 
-  pub zeros_before : (value : List ℕ) → AreBytes value → length value ≡ size → number_of_bytes value ≡ n → take (8 - size) (to_be_bytes w64 n) ≡ replicate (8 - size) 0
+  pub zeros_before : (value : List ℕ) → AreBytes value → length value ≡ size → number_of_bytes value ≡ n →
+      take (8 - size) (to_be_bytes w64 n) ≡ replicate (8 - size) 0
   zeros_before value small long is =
       let padded : List ℕ = replicate (8 - size) 0 ++ value in
-      let eight : length padded ≡ 8 = omega (arith, length-append (replicate (8 - size) 0) value, length-replicate {A = ℕ} (8 - size) 0, long) in
+      let eight : length padded ≡ 8 =
+      omega (arith, length-append (replicate (8 - size) 0) value, length-replicate {A = ℕ} (8 - size) 0, long) in
       let same : to_be_bytes w64 n ≡ padded =
-      be_bytes_8 padded n eight (zeros_small (8 - size) value small) (sym is ∙ ap (λ k. from_be_bytes w64 (replicate (8 - k) 0 ++ value)) long) in
-      ap (take (8 - size)) same ∙ take_at (replicate (8 - size) 0) value (8 - size) (length-replicate {A = ℕ} (8 - size) 0)
+      be_bytes_8 padded n eight (zeros_small (8 - size) value small)
+      (sym is ∙ ap (λ k. from_be_bytes w64 (replicate (8 - k) 0 ++ value)) long) in
+      ap (take (8 - size)) same
+      ∙ take_at (replicate (8 - size) 0) value (8 - size) (length-replicate {A = ℕ} (8 - size) 0)

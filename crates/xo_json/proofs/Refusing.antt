@@ -1,13 +1,15 @@
 -- What a refusal says of a text.
 use Rattle.std.proofs.Common.{◌≡◌, ℕ, zero, suc, List, Some, inl, inr, Result, Ok, Err, IfErr, MatchResult}
 use Rattle.std.specs.Prelude.{IsUtf8}
-use Rattle.serde_json.specs.Data.{Data, null, boolean, number, string, array, object, Items, no_items, item, Members, no_members, member}
+use Rattle.serde_json.specs.Data.{Data, null, boolean, number, string, array, object, Items, no_items, item, Members}
+use Rattle.serde_json.specs.Data.{no_members, member}
 use Rattle.serde_json.specs.Read.{read}
 use Rattle.xo_fields.specs.declared.form.Form.{Form}
 use Rattle.xo_fields.specs.declared.form.Form.TheVariants.{Fixed, Money, Blob, Account, Object, Array}
 use Rattle.xo_told.specs.declared.fault.JsonFault.{JsonFault}
 use Rattle.xo_told.specs.declared.fault.JsonFault.TheVariants.{BadText, BadKey, BadValue, TooDeep, NoMemory}
-use Rattle.xo_told.specs.Faults.{Fails, Shows, MemberFails, MembersFail, ObjectFails, InnerFails, OnlyFails, ElementFails, ItemsFail, ArrayFails, ValueFails, Refuses}
+use Rattle.xo_told.specs.Faults.{Fails, Shows, MemberFails, MembersFail, ObjectFails, InnerFails, OnlyFails}
+use Rattle.xo_told.specs.Faults.{ElementFails, ItemsFail, ArrayFails, ValueFails, Refuses}
 use Rattle.xo_told.specs.Reading.{ShowsValue}
 
 module _ (fails : Fails) (shows : Shows) (never : (form : Form) (d : Data) → fails form d BadText → ⊥) where
@@ -69,14 +71,17 @@ value_never zero Array d h = cc h
 value_never (suc room) Object d h = object_never (ValueFails room) (ShowsValue room) (value_never room) d h
 value_never (suc room) Array d h = array_never (ValueFails room) (ShowsValue room) (value_never room) d h
 
-refused : (text : List ℕ) (d : Data) (fault : JsonFault) → IsUtf8 text × (read text ≡ Some d) → ((fault ≡ NoMemory → ⊥) → ObjectFails (ValueFails 10) (ShowsValue 10) d fault) → Refuses text fault
+refused : (text : List ℕ) (d : Data) (fault : JsonFault) → IsUtf8 text × (read text ≡ Some d) →
+    ((fault ≡ NoMemory → ⊥) → ObjectFails (ValueFails 10) (ShowsValue 10) d fault) → Refuses text fault
 refused text d BadText is h = absurd (object_never (ValueFails 10) (ShowsValue 10) (value_never 10) d (h (λ e. cc e)))
 refused text d BadKey is h = (d, is.0, is.1, h (λ e. cc e))
 refused text d BadValue is h = (d, is.0, is.1, h (λ e. cc e))
 refused text d TooDeep is h = (d, is.0, is.1, h (λ e. cc e))
 refused text d NoMemory is h = tt
 
-pub root_refuses : {A : Type 0} (P : A → Type 0) (text : List ℕ) (d : Data) (r : Result A JsonFault) → IsUtf8 text × (read text ≡ Some d) →
-    MatchResult r P (λ fault. (fault ≡ NoMemory → ⊥) → ObjectFails (ValueFails 10) (ShowsValue 10) d fault) → IfErr r (λ fault. Refuses text fault)
+pub root_refuses : {A : Type 0} (P : A → Type 0) (text : List ℕ) (d : Data) (r : Result A JsonFault) →
+    IsUtf8 text × (read text ≡ Some d) →
+    MatchResult r P (λ fault. (fault ≡ NoMemory → ⊥) → ObjectFails (ValueFails 10) (ShowsValue 10) d fault) →
+    IfErr r (λ fault. Refuses text fault)
 root_refuses P text d (Ok x) is h = tt
 root_refuses P text d (Err fault) is h = refused text d fault is h

@@ -41,11 +41,14 @@ never_account bytes lengths.Bad h = cc
 never_account bytes (lengths.Length n size) (inl (k, h)) = cc
 never_account bytes (lengths.Length n size) (inr (k, l, h)) = cc
 
-never_comes : (fits : Form → List ℕ → Type 0) (inside : Form → List ℕ → ObjectFault → Type 0) → ((form : Form) (bytes : List ℕ) → inside form bytes NoMemory → ⊥) →
-    (place : Place) (last : ℕ) (items : List Item) (bytes : List ℕ) → Comes fits inside place last items bytes (fails NoMemory) → ⊥
+never_comes : (fits : Form → List ℕ → Type 0) (inside : Form → List ℕ → ObjectFault → Type 0) →
+    ((form : Form) (bytes : List ℕ) → inside form bytes NoMemory → ⊥) →
+    (place : Place) (last : ℕ) (items : List Item) (bytes : List ℕ) →
+    Comes fits inside place last items bytes (fails NoMemory) → ⊥
 never_comes fits inside never place last [] bytes (n, inl (read, gives, h)) = never_header _ last read h
 never_comes fits inside never place last [] bytes (n, inr (f, form, tail, head, h)) = never form tail h
-never_comes fits inside never place last (x ∷ xs) bytes (tail, stands, h) = never_comes fits inside never place (number x.field) xs tail h
+never_comes fits inside never place last (x ∷ xs) bytes (tail, stands, h) =
+    never_comes fits inside never place (number x.field) xs tail h
 
 never_body : (room : ℕ) (form : Form) (bytes : List ℕ) → BodyFails room form bytes NoMemory → ⊥
 never_body room (Fixed n) bytes (k, h) = cc
@@ -54,8 +57,11 @@ never_body room Blob bytes (read, gives, h) = never_blob bytes read h
 never_body room Account bytes (read, gives, h) = never_account bytes read h
 never_body zero Object bytes h = cc
 never_body zero Array bytes h = cc
-never_body (suc room) Object bytes (items, h) = never_comes (IsValue room) (BodyFails room) (never_body room) NestedFields 0 items bytes h
-never_body (suc room) Array bytes (items, h) = never_comes (IsValue room) (BodyFails room) (never_body room) NestedElements 0 items bytes h
+never_body (suc room) Object bytes (items, h) =
+    never_comes (IsValue room) (BodyFails room) (never_body room) NestedFields 0 items bytes h
+never_body (suc room) Array bytes (items, h) =
+    never_comes (IsValue room) (BodyFails room) (never_body room) NestedElements 0 items bytes h
 
-pub never : (room : ℕ) (place : Place) (last : ℕ) (items : List Item) (bytes : List ℕ) → Comes (IsValue room) (BodyFails room) place last items bytes (fails NoMemory) → ⊥
+pub never : (room : ℕ) (place : Place) (last : ℕ) (items : List Item) (bytes : List ℕ) →
+    Comes (IsValue room) (BodyFails room) place last items bytes (fails NoMemory) → ⊥
 never room = never_comes (IsValue room) (BodyFails room) (never_body room)

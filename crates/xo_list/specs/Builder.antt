@@ -16,4 +16,6 @@ puts fields = map item_put fields
 -- where a field belongs, or that it was put before
 abbrev pub IsFree : FieldId → List Put → Option ℕ → Type 0
 IsFree field fields None = IsSome (lookup field (puts fields))
-IsFree field fields (Some index) = (index ≤ length fields) × AllBelow (number field) (puts (take index fields)) × AllAbove (number field) (puts (drop index fields))
+IsFree field fields (Some index) =
+    (index ≤ length fields) × AllBelow (number field) (puts (take index fields))
+    × AllAbove (number field) (puts (drop index fields))

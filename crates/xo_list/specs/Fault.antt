@@ -14,7 +14,8 @@ use Rattle.xo_fields.specs.Field.{number}
 use Rattle.xo_fields.specs.Header.{HeaderGives}
 use Rattle.xo_fields.specs.Length.{LengthGives}
 use Rattle.xo_list.specs.declared.fault.ObjectFault.{ObjectFault}
-use Rattle.xo_list.specs.declared.fault.ObjectFault.TheVariants.{Cut, UnknownField, OutOfOrder, BadLength, BadAmount, TooDeep}
+use Rattle.xo_list.specs.declared.fault.ObjectFault.TheVariants.{Cut, UnknownField, OutOfOrder, BadLength, BadAmount}
+use Rattle.xo_list.specs.declared.fault.ObjectFault.TheVariants.{TooDeep}
 use Rattle.xo_list.specs.declared.skip.Place.{Place}
 use Rattle.xo_list.specs.declared.skip.Place.TheVariants.{Fields, NestedFields, Elements, NestedElements}
 use Rattle.xo_list.specs.Item.{Item}
@@ -55,7 +56,8 @@ HeadFails array last bytes fault = (read : HeaderRead) × HeaderGives bytes read
 -- the first field fails, in its header or after it
 abbrev pub FieldFails : (Form → List ℕ → ObjectFault → Type 0) → Bool → ℕ → List ℕ → ObjectFault → Type 0
 FieldFails inside array last bytes fault =
-    HeadFails array last bytes fault ⊎ ((f : FieldId) × (form : Form) × (tail : List ℕ) × Head array last f form bytes tail × inside form tail fault)
+    HeadFails array last bytes fault
+    ⊎ ((f : FieldId) × (form : Form) × (tail : List ℕ) × Head array last f form bytes tail × inside form tail fault)
 
 -- what stands in a place, with such an outcome
 abbrev pub Meets : (Form → List ℕ → ObjectFault → Type 0) → Place → Outcome → ℕ → List ℕ → Type 0
@@ -63,8 +65,10 @@ Meets inside place (ends rest) last bytes = IsEnd place bytes rest
 Meets inside place (fails fault) last bytes = IsNoEnd place bytes × FieldFails inside (is_array place) last bytes fault
 
 -- these fields stand first, and then comes the outcome
-abbrev pub Comes : (Form → List ℕ → Type 0) → (Form → List ℕ → ObjectFault → Type 0) → Place → ℕ → List Item → List ℕ → Outcome → Type 0
-Comes fits inside place last items bytes outcome = Goes fits (is_array place) last items bytes (Meets inside place outcome)
+abbrev pub Comes : (Form → List ℕ → Type 0) → (Form → List ℕ → ObjectFault → Type 0) → Place → ℕ → List Item → List ℕ →
+    Outcome → Type 0
+Comes fits inside place last items bytes outcome =
+    Goes fits (is_array place) last items bytes (Meets inside place outcome)
 
 abbrev pub AmountFault : AmountRead → ObjectFault → Type 0
 AmountFault amounts.Cut fault = fault ≡ Cut
@@ -79,7 +83,8 @@ BlobFault bytes (lengths.Length n size) fault = (length bytes < size + n) × (fa
 abbrev pub AccountFault : List ℕ → LengthRead → ObjectFault → Type 0
 AccountFault bytes lengths.Cut fault = fault ≡ Cut
 AccountFault bytes lengths.Bad fault = fault ≡ BadLength
-AccountFault bytes (lengths.Length n size) fault = ((n ≡ 20 → ⊥) × (fault ≡ BadLength)) ⊎ ((n ≡ 20) × (length bytes < size + n) × (fault ≡ Cut))
+AccountFault bytes (lengths.Length n size) fault =
+    ((n ≡ 20 → ⊥) × (fault ≡ BadLength)) ⊎ ((n ≡ 20) × (length bytes < size + n) × (fault ≡ Cut))
 
 -- how a field fails after its header, where so many objects and arrays may be open
 abbrev pub BodyFails : ℕ → Form → List ℕ → ObjectFault → Type 0
@@ -89,12 +94,15 @@ BodyFails room Blob bytes fault = (read : LengthRead) × LengthGives bytes read 
 BodyFails room Account bytes fault = (read : LengthRead) × LengthGives bytes read × AccountFault bytes read fault
 BodyFails zero Object bytes fault = fault ≡ TooDeep
 BodyFails zero Array bytes fault = fault ≡ TooDeep
-BodyFails (suc room) Object bytes fault = (items : List Item) × Comes (IsValue room) (BodyFails room) NestedFields 0 items bytes (fails fault)
-BodyFails (suc room) Array bytes fault = (items : List Item) × Comes (IsValue room) (BodyFails room) NestedElements 0 items bytes (fails fault)
+BodyFails (suc room) Object bytes fault =
+    (items : List Item) × Comes (IsValue room) (BodyFails room) NestedFields 0 items bytes (fails fault)
+BodyFails (suc room) Array bytes fault =
+    (items : List Item) × Comes (IsValue room) (BodyFails room) NestedElements 0 items bytes (fails fault)
 
 -- what stands in a place with room for so many
 abbrev pub Reads : ℕ → Place → ℕ → List ℕ → Outcome → Type 0
-Reads room place last bytes outcome = (items : List Item) × Comes (IsValue room) (BodyFails room) place last items bytes outcome
+Reads room place last bytes outcome =
+    (items : List Item) × Comes (IsValue room) (BodyFails room) place last items bytes outcome
 
 -- the leftmost field of an object's bytes that fails has this fault
 abbrev pub IsFault : List ℕ → ObjectFault → Type 0

@@ -12,16 +12,22 @@ use Rattle.xo_list.specs.List.{IsList}
 -- bytes are read as one list of fields with one end, or with one fault
 abbrev pub OneReading : Type 0
 OneReading = (room : ℕ) (place : Place) (a b : List Item) (bytes : List ℕ) (o p : Outcome) →
-    Comes (IsValue room) (BodyFails room) place 0 a bytes o → Comes (IsValue room) (BodyFails room) place 0 b bytes p → (a ≡ b) × (o ≡ p)
+    Comes (IsValue room) (BodyFails room) place 0 a bytes o → Comes (IsValue room) (BodyFails room) place 0 b bytes p →
+    (a ≡ b) × (o ≡ p)
 
 -- one field stands at the front of bytes, and then none fails there
 abbrev pub OneField : Type 0
-OneField = (room : ℕ) (array : Bool) (last : ℕ) (bytes : List ℕ) (x : Item) (tail : List ℕ) → Stands (IsValue room) array last x bytes tail →
-    ((y : Item) (more : List ℕ) → Stands (IsValue room) array last y bytes more → (x ≡ y) × (tail ≡ more)) × ((fault : ObjectFault) → FieldFails (BodyFails room) array last bytes fault → ⊥)
+OneField =
+    (room : ℕ) (array : Bool) (last : ℕ) (bytes : List ℕ) (x : Item) (tail : List ℕ) →
+    Stands (IsValue room) array last x bytes tail →
+    ((y : Item) (more : List ℕ) → Stands (IsValue room) array last y bytes more → (x ≡ y) × (tail ≡ more))
+    × ((fault : ObjectFault) → FieldFails (BodyFails room) array last bytes fault → ⊥)
 
 -- an object's bytes are its list, spelled; and what may stand in a list is spelled as an object
 abbrev pub OneSpelling : Type 0
-OneSpelling = ((items : List Item) (bytes : List ℕ) → IsObject items bytes → IsList items × (bytes ≡ spell items)) × ((items : List Item) → IsList items → IsObject items (spell items))
+OneSpelling =
+    ((items : List Item) (bytes : List ℕ) → IsObject items bytes → IsList items × (bytes ≡ spell items))
+    × ((items : List Item) → IsList items → IsObject items (spell items))
 
 -- an array's bytes are its elements, spelled
 abbrev pub OneArray : Type 0

@@ -30,13 +30,16 @@ pub record Cuts (bytes : List ℕ) (field : FieldId) (before after : List Item) 
 abbrev pub Locates : List ℕ → FieldId → List Item → Located → Type 0
 Locates bytes field items (Found from value to) =
     (before : List Item) × (after : List Item) × Cuts bytes field before after from to
-    × (items ≡ before ++ record { field = field; value = part bytes value.from value.to } ∷ after) × (value.from ≤ value.to) × (value.to ≤ length bytes)
+    × (items ≡ before ++ record { field = field; value = part bytes value.from value.to } ∷ after)
+    × (value.from ≤ value.to) × (value.to ≤ length bytes)
     × (value ≡ value_span from (record { field = field; value = part bytes value.from value.to }))
-Locates bytes field items (Absent at) = (before : List Item) × (after : List Item) × Cuts bytes field before after at at × (items ≡ before ++ after)
+Locates bytes field items (Absent at) =
+    (before : List Item) × (after : List Item) × Cuts bytes field before after at at × (items ≡ before ++ after)
 
 -- so many elements were passed over, and no more only where there are no more
 abbrev pub Passes : List ℕ → List Item → ℕ → Passed → Type 0
 Passes bytes elements count passed =
-    (before : List Item) × (after : List Item) × (elements ≡ before ++ after) × (length before ≡ passed.count) × (passed.count ≤ count) × (passed.count < count → after ≡ [])
+    (before : List Item) × (after : List Item) × (elements ≡ before ++ after) × (length before ≡ passed.count)
+    × (passed.count ≤ count) × (passed.count < count → after ≡ [])
     × (passed.at ≤ length bytes) × Goes (IsValue 9) true 0 after (drop passed.at bytes) (λ last rest. rest ≡ [])
     × (passed.at ≡ length (spell before))

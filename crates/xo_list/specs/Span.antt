@@ -1,5 +1,6 @@
 -- Spans of fields in the bytes of an object.
-use Rattle.std.specs.Prelude.{◌≡◌, ℕ, ◌+◌, ◌-◌, ◌≤◌, List, [], ◌∷◌, ◌++◌, length, take, drop, map, All, Option, Some, None, slice_get, if◌then◌else◌}
+use Rattle.std.specs.Prelude.{◌≡◌, ℕ, ◌+◌, ◌-◌, ◌≤◌, List, [], ◌∷◌, ◌++◌, length, take, drop, map, All, Option, Some}
+use Rattle.std.specs.Prelude.{None, slice_get, if◌then◌else◌}
 use Rattle.xo_fields.specs.declared.field.FieldId.{FieldId}
 use Rattle.xo_fields.specs.declared.form.Form.{Form}
 use Rattle.xo_list.specs.declared.span.Span.{Span}
@@ -62,11 +63,14 @@ pub record IsRead (bytes : List ℕ) (spans : List (FieldId × Span)) : Type 0 w
 -- what is found, where it should have this value
 abbrev pub FindsValue : List ℕ → Option (List ℕ) → Option Span → Type 0
 FindsValue bytes value None = value ≡ None
-FindsValue bytes value (Some span) = (span.from ≤ span.to) × (span.to ≤ length bytes) × (value ≡ Some (part bytes span.from span.to))
+FindsValue bytes value (Some span) =
+    (span.from ≤ span.to) × (span.to ≤ length bytes) × (value ≡ Some (part bytes span.from span.to))
 
 -- what is found as an element: its header, fields and end mark, behind the elements before it
 abbrev pub FindsElement : List ℕ → List Item → ℕ → Option Span → Type 0
 FindsElement bytes elements index None = length elements ≤ index
 FindsElement bytes elements index (Some span) =
-    (span.from ≤ span.to) × (span.to ≤ length bytes) × ((element : Item) × (slice_get elements index ≡ Some element) × (part bytes span.from span.to ≡ spell (element ∷ [])))
+    (span.from ≤ span.to) × (span.to ≤ length bytes)
+    × ((element : Item) × (slice_get elements index ≡ Some element)
+    × (part bytes span.from span.to ≡ spell (element ∷ [])))
     × (span.from ≡ length (spell (take index elements)))

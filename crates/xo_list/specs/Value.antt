@@ -22,7 +22,8 @@ pub record Head (array : Bool) (last : ℕ) (f : FieldId) (form : Form) (bytes t
   pub allowed : Allowed array last f
 
 -- the bytes are a field with a value, and these bytes after it
-pub record Stands (fits : Form → List ℕ → Type 0) (array : Bool) (last : ℕ) (x : Item) (bytes tail : List ℕ) : Type 0 where
+pub record Stands (fits : Form → List ℕ → Type 0) (array : Bool) (last : ℕ) (x : Item)
+    (bytes tail : List ℕ) : Type 0 where
   pub form : Form
   pub head : Head array last x.field form bytes (body form x.value ++ tail)
   pub value : fits form x.value
@@ -30,7 +31,8 @@ pub record Stands (fits : Form → List ℕ → Type 0) (array : Bool) (last : �
 -- the bytes are these fields, and what is asked holds of the last number and of the bytes that are left
 abbrev pub Goes : (Form → List ℕ → Type 0) → Bool → ℕ → List Item → List ℕ → (ℕ → List ℕ → Type 0) → Type 0
 Goes fits array last [] bytes asked = asked last bytes
-Goes fits array last (x ∷ xs) bytes asked = (tail : List ℕ) × Stands fits array last x bytes tail × Goes fits array (number x.field) xs tail asked
+Goes fits array last (x ∷ xs) bytes asked =
+    (tail : List ℕ) × Stands fits array last x bytes tail × Goes fits array (number x.field) xs tail asked
 
 -- the bytes are these fields and no more
 abbrev pub Whole : (Form → List ℕ → Type 0) → Bool → List Item → List ℕ → Type 0

@@ -1,4 +1,5 @@
-ghost use Rattle.std.specs.Prelude.{◌≡◌, ◌<◌, ◌≤◌, ◌∷◌, ◌++◌, ◌↔◌, [], length, take, drop, Err, Some, None, IsTrue, IsSome, IfOk, OnOk, OnErr};
+ghost use Rattle.std.specs.Prelude.{◌≡◌, ◌<◌, ◌≤◌, ◌∷◌, ◌++◌, ◌↔◌, [], length, take, drop, Err, Some, None, IsTrue};
+ghost use Rattle.std.specs.Prelude.{IsSome, IfOk, OnOk, OnErr};
 ghost use Rattle.xo_fields.specs.Amount.{IsAmount};
 ghost use Rattle.xo_fields.specs.Field.{number};
 ghost use Rattle.xo_fields.specs.Length.{prefix};
@@ -123,7 +124,8 @@ fn spelled(alloc: Global, fields: &[Put]) -> Result<Vec<u8>, NoMemory>
 /// Adds the bytes of a field: its header, the length where it has one, its value, and the end mark where it has one.
 fn spell_field(bytes: &mut Vec<u8>, field: FieldId, value: &[u8]) -> Result<(), NoMemory>
     requires { IsFit field value.now }
-    ensures bytes { OnOk result (bytes.new.items ≡ bytes.old.items ++ spell (record { field = field; value = value.now } ∷ [])) }
+    ensures bytes { OnOk result
+        (bytes.new.items ≡ bytes.old.items ++ spell (record { field = field; value = value.now } ∷ [])) }
 {
     let (header, size) = write_header(field);
     bytes.extend_from_slice(&header[..size])?;

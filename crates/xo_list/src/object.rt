@@ -97,7 +97,8 @@ pub fn collect(
     room: u8,
 ) -> Result<Vec<(FieldId, Span)>, ObjectFault>
     ensures ok { IfOk result (λ spans. Collects room place bytes.now spans.items) }
-    ensures fault { IfErr result (λ fault. (fault ≡ ObjectFault.NoMemory → ⊥) → Reads room place 0 bytes.now (fails fault)) }
+    ensures fault { IfErr result
+        (λ fault. (fault ≡ ObjectFault.NoMemory → ⊥) → Reads room place 0 bytes.now (fails fault)) }
 {
     let array = holds_elements(place);
     let mut spans = Vec::new(alloc);

@@ -1,4 +1,5 @@
-ghost use Rattle.std.specs.Prelude.{◌≡◌, ◌+◌, ◌*◌, ◌≤◌, ◌<◌, ◌∷◌, Bool, List, ℕ, length, take, drop, Some, MatchOption, MatchResult, IfOk};
+ghost use Rattle.std.specs.Prelude.{◌≡◌, ◌+◌, ◌*◌, ◌≤◌, ◌<◌, ◌∷◌, Bool, List, ℕ, length, take, drop, Some, MatchOption};
+ghost use Rattle.std.specs.Prelude.{MatchResult, IfOk};
 ghost use Rattle.xo_fields.specs.declared.field.FieldId.{FieldId};
 ghost use Rattle.xo_list.specs.Value.{Allowed, Head, IsValue};
 ghost use Rattle.xo_list.specs.Fault.{is_array, IsEnd, IsNoEnd, HeaderFault, HeadFails, BodyFails, Reads, ends, fails};
@@ -65,7 +66,8 @@ pub fn holds_elements(place: Place) -> bool
 pub fn end_of(bytes: &[u8], at: usize, place: Place) -> Option<usize>
     requires { at ≤ length bytes.now }
     ensures within { MatchOption result (Unit {0}) (λ to. (at ≤ to) × (to ≤ length bytes.now)) }
-    ensures ends { MatchOption result (IsNoEnd place (drop at bytes.now)) (λ to. IsEnd place (drop at bytes.now) (drop to bytes.now)) }
+    ensures ends { MatchOption result (IsNoEnd place (drop at bytes.now))
+        (λ to. IsEnd place (drop at bytes.now) (drop to bytes.now)) }
 {
     match place {
         Place::Fields => end_of_bytes(bytes, at),
@@ -78,7 +80,8 @@ pub fn end_of(bytes: &[u8], at: usize, place: Place) -> Option<usize>
 fn end_of_bytes(bytes: &[u8], at: usize) -> Option<usize>
     requires { at ≤ length bytes.now }
     ensures within { MatchOption result (Unit {0}) (λ to. (at ≤ to) × (to ≤ length bytes.now)) }
-    ensures ends { MatchOption result (IsNoEnd Place.Fields (drop at bytes.now)) (λ to. IsEnd Place.Fields (drop at bytes.now) (drop to bytes.now)) }
+    ensures ends { MatchOption result (IsNoEnd Place.Fields (drop at bytes.now))
+        (λ to. IsEnd Place.Fields (drop at bytes.now) (drop to bytes.now)) }
 {
     if at == bytes.len() { Some(at) } else { None }
 }
@@ -86,7 +89,8 @@ fn end_of_bytes(bytes: &[u8], at: usize) -> Option<usize>
 fn end_at_mark(bytes: &[u8], at: usize, mark: u8) -> Option<usize>
     requires { at ≤ length bytes.now }
     ensures within { MatchOption result (Unit {0}) (λ to. (at ≤ to) × (to ≤ length bytes.now)) }
-    ensures ends { MatchOption result ((rest : List ℕ) → drop at bytes.now ≡ mark ∷ rest → ⊥) (λ to. drop at bytes.now ≡ mark ∷ drop to bytes.now) }
+    ensures ends { MatchOption result ((rest : List ℕ) → drop at bytes.now ≡ mark ∷ rest → ⊥)
+        (λ to. drop at bytes.now ≡ mark ∷ drop to bytes.now) }
 {
     if at < bytes.len() {
         if bytes[at] == mark {
@@ -100,7 +104,9 @@ fn end_at_mark(bytes: &[u8], at: usize, mark: u8) -> Option<usize>
 pub fn start_of(bytes: &[u8], at: usize, array: bool, last: u32) -> Result<Start, ObjectFault>
     requires { at ≤ length bytes.now }
     ensures within { IfOk result (λ start. (at < start.from) × (start.from ≤ length bytes.now)) }
-    ensures start { MatchResult result (λ start. Head array last start.field start.form (drop at bytes.now) (drop start.from bytes.now)) (λ fault. HeadFails array last (drop at bytes.now) fault) }
+    ensures start { MatchResult result
+        (λ start. Head array last start.field start.form (drop at bytes.now) (drop start.from bytes.now))
+        (λ fault. HeadFails array last (drop at bytes.now) fault) }
 {
     match read_header(bytes, at) {
         HeaderRead::Cut => Err(ObjectFault::Cut),
@@ -123,7 +129,8 @@ pub fn start_of(bytes: &[u8], at: usize, array: bool, last: u32) -> Result<Start
 
 /// The fault of a field that may not stand after a field of the last number.
 fn misplaced(field: FieldId, array: bool, last: u32) -> Option<ObjectFault>
-    ensures allowed { MatchOption result (Allowed array last field) (λ fault. (size : ℕ) → HeaderFault array last (HeaderRead.Header field size) fault) }
+    ensures allowed { MatchOption result (Allowed array last field)
+        (λ fault. (size : ℕ) → HeaderFault array last (HeaderRead.Header field size) fault) }
 {
     if array {
         if field.kind == OBJECT_KIND {
@@ -142,8 +149,11 @@ fn misplaced(field: FieldId, array: bool, last: u32) -> Option<ObjectFault>
 #[cycle(nested)]
 pub fn skip_value(bytes: &[u8], at: usize, form: Form, room: u8) -> Result<Skipped, ObjectFault>
     requires { at ≤ length bytes.now }
-    ensures within { IfOk result (λ v. (at ≤ v.from) × (v.from ≤ v.to) × (v.to ≤ v.next) × (v.next ≤ length bytes.now)) }
-    ensures value { MatchResult result (λ v. Valued room form (drop at bytes.now) (part bytes.now v.from v.to) (drop v.next bytes.now)) (λ fault. BodyFails room form (drop at bytes.now) fault) }
+    ensures within { IfOk result
+        (λ v. (at ≤ v.from) × (v.from ≤ v.to) × (v.to ≤ v.next) × (v.next ≤ length bytes.now)) }
+    ensures value { MatchResult result
+        (λ v. Valued room form (drop at bytes.now) (part bytes.now v.from v.to) (drop v.next bytes.now))
+        (λ fault. BodyFails room form (drop at bytes.now) fault) }
     ensures place { IfOk result (λ v. v.from ≡ at + length (lead (Some form) (part bytes.now v.from v.to))) }
 {
     match form {
@@ -182,9 +192,13 @@ pub fn skip_value(bytes: &[u8], at: usize, form: Form, room: u8) -> Result<Skipp
 
 fn skip_fixed(bytes: &[u8], at: usize, size: usize) -> Result<Skipped, ObjectFault>
     requires { at ≤ length bytes.now }
-    ensures within { IfOk result (λ v. (at ≤ v.from) × (v.from ≤ v.to) × (v.to ≤ v.next) × (v.next ≤ length bytes.now)) }
-    ensures value { MatchResult result (λ v. Valued 0 (Form.Fixed size) (drop at bytes.now) (part bytes.now v.from v.to) (drop v.next bytes.now)) (λ fault. BodyFails 0 (Form.Fixed size) (drop at bytes.now) fault) }
-    ensures place { IfOk result (λ v. v.from ≡ at + length (lead (Some (Form.Fixed size)) (part bytes.now v.from v.to))) }
+    ensures within { IfOk result
+        (λ v. (at ≤ v.from) × (v.from ≤ v.to) × (v.to ≤ v.next) × (v.next ≤ length bytes.now)) }
+    ensures value { MatchResult result
+        (λ v. Valued 0 (Form.Fixed size) (drop at bytes.now) (part bytes.now v.from v.to) (drop v.next bytes.now))
+        (λ fault. BodyFails 0 (Form.Fixed size) (drop at bytes.now) fault) }
+    ensures place { IfOk result
+        (λ v. v.from ≡ at + length (lead (Some (Form.Fixed size)) (part bytes.now v.from v.to))) }
 {
     if bytes.len() - at < size {
         return Err(ObjectFault::Cut);
@@ -199,8 +213,11 @@ fn skip_fixed(bytes: &[u8], at: usize, size: usize) -> Result<Skipped, ObjectFau
 
 fn skip_amount(bytes: &[u8], at: usize) -> Result<Skipped, ObjectFault>
     requires { at ≤ length bytes.now }
-    ensures within { IfOk result (λ v. (at ≤ v.from) × (v.from ≤ v.to) × (v.to ≤ v.next) × (v.next ≤ length bytes.now)) }
-    ensures value { MatchResult result (λ v. Valued 0 Form.Money (drop at bytes.now) (part bytes.now v.from v.to) (drop v.next bytes.now)) (λ fault. BodyFails 0 Form.Money (drop at bytes.now) fault) }
+    ensures within { IfOk result
+        (λ v. (at ≤ v.from) × (v.from ≤ v.to) × (v.to ≤ v.next) × (v.next ≤ length bytes.now)) }
+    ensures value { MatchResult result
+        (λ v. Valued 0 Form.Money (drop at bytes.now) (part bytes.now v.from v.to) (drop v.next bytes.now))
+        (λ fault. BodyFails 0 Form.Money (drop at bytes.now) fault) }
     ensures place { IfOk result (λ v. v.from ≡ at + length (lead (Some Form.Money) (part bytes.now v.from v.to))) }
 {
     match read_amount(bytes, at) {
@@ -219,8 +236,11 @@ fn skip_amount(bytes: &[u8], at: usize) -> Result<Skipped, ObjectFault>
 
 fn skip_blob(bytes: &[u8], at: usize) -> Result<Skipped, ObjectFault>
     requires { at ≤ length bytes.now }
-    ensures within { IfOk result (λ v. (at ≤ v.from) × (v.from ≤ v.to) × (v.to ≤ v.next) × (v.next ≤ length bytes.now)) }
-    ensures value { MatchResult result (λ v. Valued 0 Form.Blob (drop at bytes.now) (part bytes.now v.from v.to) (drop v.next bytes.now)) (λ fault. BodyFails 0 Form.Blob (drop at bytes.now) fault) }
+    ensures within { IfOk result
+        (λ v. (at ≤ v.from) × (v.from ≤ v.to) × (v.to ≤ v.next) × (v.next ≤ length bytes.now)) }
+    ensures value { MatchResult result
+        (λ v. Valued 0 Form.Blob (drop at bytes.now) (part bytes.now v.from v.to) (drop v.next bytes.now))
+        (λ fault. BodyFails 0 Form.Blob (drop at bytes.now) fault) }
     ensures place { IfOk result (λ v. v.from ≡ at + length (lead (Some Form.Blob) (part bytes.now v.from v.to))) }
 {
     match read_length(bytes, at) {
@@ -243,8 +263,11 @@ fn skip_blob(bytes: &[u8], at: usize) -> Result<Skipped, ObjectFault>
 
 fn skip_account(bytes: &[u8], at: usize) -> Result<Skipped, ObjectFault>
     requires { at ≤ length bytes.now }
-    ensures within { IfOk result (λ v. (at ≤ v.from) × (v.from ≤ v.to) × (v.to ≤ v.next) × (v.next ≤ length bytes.now)) }
-    ensures value { MatchResult result (λ v. Valued 0 Form.Account (drop at bytes.now) (part bytes.now v.from v.to) (drop v.next bytes.now)) (λ fault. BodyFails 0 Form.Account (drop at bytes.now) fault) }
+    ensures within { IfOk result
+        (λ v. (at ≤ v.from) × (v.from ≤ v.to) × (v.to ≤ v.next) × (v.next ≤ length bytes.now)) }
+    ensures value { MatchResult result
+        (λ v. Valued 0 Form.Account (drop at bytes.now) (part bytes.now v.from v.to) (drop v.next bytes.now))
+        (λ fault. BodyFails 0 Form.Account (drop at bytes.now) fault) }
     ensures place { IfOk result (λ v. v.from ≡ at + length (lead (Some Form.Account) (part bytes.now v.from v.to))) }
 {
     match read_length(bytes, at) {
@@ -272,7 +295,8 @@ fn skip_account(bytes: &[u8], at: usize) -> Result<Skipped, ObjectFault>
 pub fn skip_fields(bytes: &[u8], from: usize, place: Place, room: u8) -> Result<usize, ObjectFault>
     requires { from ≤ length bytes.now }
     ensures within { IfOk result (λ to. (from ≤ to) × (to ≤ length bytes.now)) }
-    ensures reads { MatchResult result (λ to. Reads room place 0 (drop from bytes.now) (ends (drop to bytes.now))) (λ fault. Reads room place 0 (drop from bytes.now) (fails fault)) }
+    ensures reads { MatchResult result (λ to. Reads room place 0 (drop from bytes.now) (ends (drop to bytes.now)))
+        (λ fault. Reads room place 0 (drop from bytes.now) (fails fault)) }
 {
     let array = holds_elements(place);
     let mut at = from;

@@ -1,4 +1,5 @@
--- The fields of transactions and of the items that install hooks (xrpl.org, "Transaction Common Fields", and this project's own for hooks).
+-- The fields of transactions and of the items that install hooks (xrpl.org, "Transaction Common Fields", and this
+-- project's own for hooks).
 use Rattle.std.specs.Prelude.{ℕ}
 use Rattle.xo_fields.specs.declared.field.FieldId.{FieldId}
 

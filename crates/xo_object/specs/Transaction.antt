@@ -1,5 +1,6 @@
 -- Which fields are a transaction, and which transaction (this project's own list of what is malformed).
-use Rattle.std.specs.Prelude.{◌≡◌, ℕ, pos, ◌%◌, ◌/◌, ◌<◌, ◌≤◌, ◌^◌, ◌==◌, ◌||◌, Bool, true, false, List, [], ◌∷◌, ◌++◌, length, Option, Some, None, IsSome, is_some, IsTrue, unwrap_or, if◌then◌else◌}
+use Rattle.std.specs.Prelude.{◌≡◌, ℕ, pos, ◌%◌, ◌/◌, ◌<◌, ◌≤◌, ◌^◌, ◌==◌, ◌||◌, Bool, true, false, List, [], ◌∷◌, ◌++◌}
+use Rattle.std.specs.Prelude.{length, Option, Some, None, IsSome, is_some, IsTrue, unwrap_or, if◌then◌else◌}
 use Rattle.std.specs.Option.{option_map}
 use Rattle.std.specs.Int.{w16, w32, w64, from_be_bytes}
 use Rattle.hk_base.specs.declared.ids.AccountId.{AccountId}
@@ -12,7 +13,8 @@ use Rattle.xo_fields.specs.Amount.{amount_bytes, IsValid}
 use Rattle.xo_object.specs.declared.terms.Terms.{Terms}
 use Rattle.xo_object.specs.declared.transaction.Grant.{Grant}
 use Rattle.xo_object.specs.declared.transaction.HookItem.{HookItem}
-use Rattle.xo_object.specs.declared.transaction.HookItem.TheVariants.{Noop, DeleteNamespace, Delete, Create, Install, Update}
+use Rattle.xo_object.specs.declared.transaction.HookItem.TheVariants.{Noop, DeleteNamespace, Delete, Create, Install}
+use Rattle.xo_object.specs.declared.transaction.HookItem.TheVariants.{Update}
 use Rattle.xo_object.specs.declared.transaction.Parameter.{Parameter}
 use Rattle.xo_object.specs.declared.transaction.Transaction.{Transaction}
 use Rattle.xo_list.specs.Item.{Item, lookup, is_same}
@@ -65,7 +67,8 @@ pub record IsElement {T : Type 0} (f : FieldId) (Is : List Item → T → Type 0
   pub is : Is fields y
 
 -- the bytes of an array of at most so many of those elements
-pub record AreElements {T : Type 0} (f : FieldId) (Is : List Item → T → Type 0) (limit : ℕ) (bytes : List ℕ) (ys : List T) : Type 0 where
+pub record AreElements {T : Type 0} (f : FieldId) (Is : List Item → T → Type 0) (limit : ℕ) (bytes : List ℕ)
+    (ys : List T) : Type 0 where
   pub elements : List Item
   pub array : IsArray elements bytes
   pub few : length elements ≤ limit
@@ -90,7 +93,8 @@ AllDiffer before [] = Unit {0}
 AllDiffer before (p ∷ ps) = Differs p.name before × AllDiffer (before ++ p ∷ []) ps
 
 abbrev pub AreParameters : List ℕ → List Parameter → Type 0
-AreParameters bytes parameters = AreElements names.hook_parameter ParameterIs 16 bytes parameters × AllDiffer [] parameters
+AreParameters bytes parameters =
+    AreElements names.hook_parameter ParameterIs 16 bytes parameters × AllDiffer [] parameters
 
 -- a grant: a hash, an account or none, and nothing else
 pub record GrantIs (fields : List Item) (g : Grant) : Type 0 where
@@ -178,7 +182,9 @@ pub record IsCreate (fields : List Item) (h : HookItem) : Type 0 where
   pub said_version : number16 names.hook_api_version fields ≡ Some version
   pub known : version ≤ 1
   pub said : TermsAre fields terms
-  pub others : IsTrue (only (names.flags ∷ names.hook_on ∷ names.hook_namespace ∷ names.hook_api_version ∷ names.create_code ∷ names.hook_parameters ∷ names.hook_grants ∷ []) fields)
+  pub others : IsTrue (only
+      (names.flags ∷ names.hook_on ∷ names.hook_namespace ∷ names.hook_api_version ∷ names.create_code ∷
+      names.hook_parameters ∷ names.hook_grants ∷ []) fields)
   pub is : h ≡ Create code version terms.on terms.namespace terms.parameters terms.grants terms.replace
 
 pub record IsInstall (fields : List Item) (h : HookItem) : Type 0 where
@@ -186,7 +192,9 @@ pub record IsInstall (fields : List Item) (h : HookItem) : Type 0 where
   pub terms : Terms
   pub hashed : HasHash names.hook_hash fields (Some hash)
   pub said : TermsAre fields terms
-  pub others : IsTrue (only (names.flags ∷ names.hook_on ∷ names.hook_hash ∷ names.hook_namespace ∷ names.hook_parameters ∷ names.hook_grants ∷ []) fields)
+  pub others : IsTrue (only
+      (names.flags ∷ names.hook_on ∷ names.hook_hash ∷ names.hook_namespace ∷ names.hook_parameters ∷
+      names.hook_grants ∷ []) fields)
   pub is : h ≡ Install hash terms.on terms.namespace terms.parameters terms.grants terms.replace
 
 pub record IsUpdate (fields : List Item) (h : HookItem) : Type 0 where
@@ -201,7 +209,8 @@ pub record IsUpdate (fields : List Item) (h : HookItem) : Type 0 where
   pub given_grants : Given AreGrants (lookup names.hook_grants fields) grants
   pub some : IsTrue (is_some on || is_some namespace || is_some parameters || is_some grants)
   pub flags : Replaces (number32 names.flags fields) replace
-  pub others : IsTrue (only (names.flags ∷ names.hook_on ∷ names.hook_namespace ∷ names.hook_parameters ∷ names.hook_grants ∷ []) fields)
+  pub others : IsTrue (only
+      (names.flags ∷ names.hook_on ∷ names.hook_namespace ∷ names.hook_parameters ∷ names.hook_grants ∷ []) fields)
   pub is : h ≡ Update on namespace parameters grants
 
 abbrev pub Form : Which → List Item → HookItem → Type 0
@@ -222,7 +231,9 @@ AreHooks bytes items = AreElements names.hook HookIs 10 bytes items × (1 ≤ le
 
 -- what an emission says of itself, and no more
 pub record DetailsIn (fields : List Item) (generation burden : ℕ) : Type 0 where
-  pub others : IsTrue (only (names.emit_generation ∷ names.emit_burden ∷ names.emit_parent ∷ names.emit_nonce ∷ names.emit_hook_hash ∷ names.emit_callback ∷ []) fields)
+  pub others : IsTrue (only
+      (names.emit_generation ∷ names.emit_burden ∷ names.emit_parent ∷ names.emit_nonce ∷ names.emit_hook_hash ∷
+      names.emit_callback ∷ []) fields)
   pub generation_is : number32 names.emit_generation fields ≡ Some generation
   pub burden_is : number64 names.emit_burden fields ≡ Some burden
   pub parent : IsSome (lookup names.emit_parent fields)
@@ -235,7 +246,8 @@ pub record DetailsAre (bytes : List ℕ) (generation burden : ℕ) : Type 0 wher
   pub is : DetailsIn fields generation burden
 
 abbrev pub EmissionIs : Bool → Option (List ℕ) → ℕ → ℕ → ℕ → Type 0
-EmissionIs false None sequence generation burden = (0 < sequence) × (sequence < 4294967295) × (generation ≡ 0) × (burden ≡ 1)
+EmissionIs false None sequence generation burden =
+    (0 < sequence) × (sequence < 4294967295) × (generation ≡ 0) × (burden ≡ 1)
 EmissionIs false (Some details) sequence generation burden = ⊥
 EmissionIs true None sequence generation burden = ⊥
 EmissionIs true (Some details) sequence generation burden = (sequence ≡ 0) × DetailsAre details generation burden
@@ -273,7 +285,8 @@ pub record CommonAre (fields : List Item) (kind : ℕ) (account : AccountId) (se
   pub key : IsSome (lookup names.signing_pub_key fields)
 
 -- whom one names and which amount, as a payment must and another may
-pub record PaidAre (fields : List Item) (kind : ℕ) (destination : Option AccountId) (amount : Option Amount) : Type 0 where
+pub record PaidAre (fields : List Item) (kind : ℕ) (destination : Option AccountId)
+    (amount : Option Amount) : Type 0 where
   pub destination_is : HasAccount names.destination fields destination
   pub amount_is : IsAmountOf (lookup names.amount fields) amount
   pub payment : PaymentIs kind destination amount
@@ -284,7 +297,8 @@ pub record IsTransaction (fields : List Item) (bytes : List ℕ) (emitted : Bool
   pub paid : PaidAre fields t.kind t.destination t.amount
   pub first : number32 names.first_ledger_sequence fields ≡ t.first
   pub last : number32 names.last_ledger_sequence fields ≡ t.last
-  pub other_amounts : t.other_amounts ≡ (is_some (lookup names.send_max fields) || is_some (lookup names.deliver_min fields))
+  pub other_amounts : t.other_amounts
+      ≡ (is_some (lookup names.send_max fields) || is_some (lookup names.deliver_min fields))
   pub hooks : HooksAre t.kind (lookup names.hooks fields) t.hooks
   pub given : Option (List Parameter)
   pub given_parameters : Given AreParameters (lookup names.hook_parameters fields) given

@@ -1,11 +1,13 @@
 //! The items by which a transaction installs, changes and removes hooks.
-ghost use Rattle.std.specs.Prelude.{◌≡◌, ◌≤◌, ◌<◌, ◌||◌, ◌==◌, [], List, Bool, Err, IfOk, IfSome, IfNone, IsTrue, All, Some, None};
+ghost use Rattle.std.specs.Prelude.{◌≡◌, ◌≤◌, ◌<◌, ◌||◌, ◌==◌, [], List, Bool, Err, IfOk, IfSome, IfNone, IsTrue, All};
+ghost use Rattle.std.specs.Prelude.{Some, None};
 ghost use Rattle.xo_object.specs.declared.terms.Terms.{Terms};
 ghost use Rattle.xo_object.specs.declared.transaction.HookItem.{HookItem};
 ghost use Rattle.xo_list.specs.Item.{lookup};
 ghost use Rattle.xo_object.specs.Names.{create_code, hook, hook_hash, flags};
 ghost use Rattle.xo_list.specs.Span.{items, items_of, InRange};
-ghost use Rattle.xo_object.specs.Transaction.{IsElement, AreHooks, HookIs, IsDelete, IsDeleteNamespace, IsCreate, IsInstall, IsUpdate, TermsAre, Replaces, number32, or_empty};
+ghost use Rattle.xo_object.specs.Transaction.{IsElement, AreHooks, HookIs, IsDelete, IsDeleteNamespace, IsCreate};
+ghost use Rattle.xo_object.specs.Transaction.{IsInstall, IsUpdate, TermsAre, Replaces, number32, or_empty};
 ghost use Rattle.xo_list.specs.Value.{IsArray};
 
 use crate::lists::{copied, given_grants, given_parameters};
@@ -32,7 +34,8 @@ const LAST_VERSION: u16 = 1;
 /// The items of an array's bytes.
 pub fn read_hooks(alloc: Global, bytes: &[u8]) -> Result<Items<HookItem>, TransactionFault>
     ensures ok { IfOk result (λ hooks. AreHooks bytes.now hooks) }
-    ensures malformed { result ≡ Err TransactionFault.Malformed → (hooks : List HookItem) → AreHooks bytes.now hooks → ⊥ }
+    ensures malformed { result ≡ Err TransactionFault.Malformed → (hooks : List HookItem) → AreHooks bytes.now hooks →
+        ⊥ }
 {
     match nested_array(alloc, bytes) {
         Err(fault) => Err(fault),
@@ -49,7 +52,8 @@ fn hooks_of(
     requires array { IsArray (items_of bytes.now elements.now) bytes.now }
     requires ranges { All (InRange bytes.now) elements.now }
     ensures ok { IfOk result (λ hooks. AreHooks bytes.now hooks) }
-    ensures malformed { result ≡ Err TransactionFault.Malformed → (hooks : List HookItem) → AreHooks bytes.now hooks → ⊥ }
+    ensures malformed { result ≡ Err TransactionFault.Malformed → (hooks : List HookItem) → AreHooks bytes.now hooks →
+        ⊥ }
 {
     one_reading();
     if elements.len() > MOST {
@@ -76,7 +80,8 @@ fn hooks_of(
 /// The item of an element.
 fn read_hook(alloc: Global, field: FieldId, bytes: &[u8]) -> Result<HookItem, TransactionFault>
     ensures ok { IfOk result (λ item. IsElement hook HookIs (record { field = field; value = bytes.now }) item) }
-    ensures malformed { result ≡ Err TransactionFault.Malformed → (item : HookItem) → IsElement hook HookIs (record { field = field; value = bytes.now }) item → ⊥ }
+    ensures malformed { result ≡ Err TransactionFault.Malformed → (item : HookItem) →
+        IsElement hook HookIs (record { field = field; value = bytes.now }) item → ⊥ }
 {
     one_reading();
     if field.kind != 14 {
@@ -92,7 +97,8 @@ fn read_hook(alloc: Global, field: FieldId, bytes: &[u8]) -> Result<HookItem, Tr
 /// The item of an object's fields.
 fn hook_of(alloc: Global, object: &Object) -> Result<HookItem, TransactionFault>
     ensures ok { IfOk result (λ item. HookIs (items object.now) item) }
-    ensures malformed { result ≡ Err TransactionFault.Malformed → (item : HookItem) → HookIs (items object.now) item → ⊥ }
+    ensures malformed { result ≡ Err TransactionFault.Malformed → (item : HookItem) → HookIs (items object.now) item →
+        ⊥ }
 {
     if object.items().len() == 0 {
         return Ok(HookItem::Noop);
@@ -113,7 +119,8 @@ fn hook_without_code(alloc: Global, object: &Object) -> Result<HookItem, Transac
     requires some { items object.now ≡ [] → ⊥ }
     requires no_code { lookup create_code (items object.now) ≡ None }
     ensures ok { IfOk result (λ item. HookIs (items object.now) item) }
-    ensures malformed { result ≡ Err TransactionFault.Malformed → (item : HookItem) → HookIs (items object.now) item → ⊥ }
+    ensures malformed { result ≡ Err TransactionFault.Malformed → (item : HookItem) → HookIs (items object.now) item →
+        ⊥ }
 {
     if let Some(_) = object.field(HOOK_HASH) {
         return install_of(alloc, object);
@@ -132,7 +139,8 @@ fn hook_without_code(alloc: Global, object: &Object) -> Result<HookItem, Transac
 
 fn delete_of(object: &Object) -> Result<HookItem, TransactionFault>
     ensures ok { IfOk result (λ item. IsDelete (items object.now) item) }
-    ensures malformed { result ≡ Err TransactionFault.Malformed → (item : HookItem) → IsDelete (items object.now) item → ⊥ }
+    ensures malformed { result ≡ Err TransactionFault.Malformed → (item : HookItem) → IsDelete (items object.now) item →
+        ⊥ }
 {
     if !has_only(object, &[FLAGS, CREATE_CODE]) {
         return Err(TransactionFault::Malformed);
@@ -151,7 +159,8 @@ fn delete_of(object: &Object) -> Result<HookItem, TransactionFault>
 
 fn delete_namespace_of(object: &Object) -> Result<HookItem, TransactionFault>
     ensures ok { IfOk result (λ item. IsDeleteNamespace (items object.now) item) }
-    ensures malformed { result ≡ Err TransactionFault.Malformed → (item : HookItem) → IsDeleteNamespace (items object.now) item → ⊥ }
+    ensures malformed { result ≡ Err TransactionFault.Malformed → (item : HookItem) →
+        IsDeleteNamespace (items object.now) item → ⊥ }
 {
     if !has_only(object, &[FLAGS, HOOK_NAMESPACE]) {
         return Err(TransactionFault::Malformed);
@@ -206,7 +215,8 @@ fn replaces_by(bits: u32) -> Option<bool>
 fn create_of(alloc: Global, object: &Object, code: &[u8]) -> Result<HookItem, TransactionFault>
     requires { lookup create_code (items object.now) ≡ Some code.now }
     ensures ok { IfOk result (λ item. IsCreate (items object.now) item) }
-    ensures malformed { result ≡ Err TransactionFault.Malformed → (item : HookItem) → IsCreate (items object.now) item → ⊥ }
+    ensures malformed { result ≡ Err TransactionFault.Malformed → (item : HookItem) → IsCreate (items object.now) item →
+        ⊥ }
 {
     if !has_only(
         object,
@@ -238,7 +248,8 @@ fn create_of(alloc: Global, object: &Object, code: &[u8]) -> Result<HookItem, Tr
 
 fn install_of(alloc: Global, object: &Object) -> Result<HookItem, TransactionFault>
     ensures ok { IfOk result (λ item. IsInstall (items object.now) item) }
-    ensures malformed { result ≡ Err TransactionFault.Malformed → (item : HookItem) → IsInstall (items object.now) item → ⊥ }
+    ensures malformed { result ≡ Err TransactionFault.Malformed → (item : HookItem) →
+        IsInstall (items object.now) item → ⊥ }
 {
     if !has_only(
         object,
@@ -266,7 +277,8 @@ fn install_of(alloc: Global, object: &Object) -> Result<HookItem, TransactionFau
 /// What the fields of an item that installs a hook say of it besides its code.
 fn terms_of(alloc: Global, object: &Object) -> Result<Terms, TransactionFault>
     ensures ok { IfOk result (λ terms. TermsAre (items object.now) terms) }
-    ensures malformed { result ≡ Err TransactionFault.Malformed → (terms : Terms) → TermsAre (items object.now) terms → ⊥ }
+    ensures malformed { result ≡ Err TransactionFault.Malformed → (terms : Terms) → TermsAre (items object.now) terms →
+        ⊥ }
 {
     let on = match hash_at(object, HOOK_ON) {
         None => return Err(TransactionFault::Malformed),
@@ -293,7 +305,8 @@ fn terms_of(alloc: Global, object: &Object) -> Result<Terms, TransactionFault>
 
 fn update_of(alloc: Global, object: &Object) -> Result<HookItem, TransactionFault>
     ensures ok { IfOk result (λ item. IsUpdate (items object.now) item) }
-    ensures malformed { result ≡ Err TransactionFault.Malformed → (item : HookItem) → IsUpdate (items object.now) item → ⊥ }
+    ensures malformed { result ≡ Err TransactionFault.Malformed → (item : HookItem) → IsUpdate (items object.now) item →
+        ⊥ }
 {
     if !has_only(
         object,

@@ -6,7 +6,8 @@ ghost use Rattle.xo_list.specs.Item.{lookup};
 ghost use Rattle.xo_object.specs.Names.{hook_parameter, hook_grant, hook_parameters, hook_grants};
 ghost use Rattle.xo_list.specs.Span.{items, items_of, InRange};
 ghost use Rattle.xo_list.specs.Value.{IsArray};
-ghost use Rattle.xo_object.specs.Transaction.{IsElement, ParameterIs, GrantIs, AreParameters, AreGrants, Given, Differs};
+ghost use Rattle.xo_object.specs.Transaction.{IsElement, ParameterIs, GrantIs, AreParameters, AreGrants, Given};
+ghost use Rattle.xo_object.specs.Transaction.{Differs};
 
 use crate::names::{
     AUTHORIZE, HOOK_GRANTS, HOOK_HASH, HOOK_PARAMETERS, PARAMETER_NAME, PARAMETER_VALUE,
@@ -33,7 +34,8 @@ pub fn given_parameters(
     object: &Object,
 ) -> Result<Option<Items<Parameter>>, TransactionFault>
     ensures ok { IfOk result (λ given. Given AreParameters (lookup hook_parameters (items object.now)) given) }
-    ensures malformed { result ≡ Err TransactionFault.Malformed → (given : Option (List Parameter)) → Given AreParameters (lookup hook_parameters (items object.now)) given → ⊥ }
+    ensures malformed { result ≡ Err TransactionFault.Malformed → (given : Option (List Parameter)) →
+        Given AreParameters (lookup hook_parameters (items object.now)) given → ⊥ }
 {
     match object.field(HOOK_PARAMETERS) {
         None => Ok(None),
@@ -50,7 +52,8 @@ pub fn given_grants(
     object: &Object,
 ) -> Result<Option<Items<Grant>>, TransactionFault>
     ensures ok { IfOk result (λ given. Given AreGrants (lookup hook_grants (items object.now)) given) }
-    ensures malformed { result ≡ Err TransactionFault.Malformed → (given : Option (List Grant)) → Given AreGrants (lookup hook_grants (items object.now)) given → ⊥ }
+    ensures malformed { result ≡ Err TransactionFault.Malformed → (given : Option (List Grant)) →
+        Given AreGrants (lookup hook_grants (items object.now)) given → ⊥ }
 {
     match object.field(HOOK_GRANTS) {
         None => Ok(None),
@@ -64,7 +67,8 @@ pub fn given_grants(
 /// The parameters of an array's bytes.
 fn read_parameters(alloc: Global, bytes: &[u8]) -> Result<Items<Parameter>, TransactionFault>
     ensures ok { IfOk result (λ parameters. AreParameters bytes.now parameters) }
-    ensures malformed { result ≡ Err TransactionFault.Malformed → (parameters : List Parameter) → AreParameters bytes.now parameters → ⊥ }
+    ensures malformed { result ≡ Err TransactionFault.Malformed → (parameters : List Parameter) →
+        AreParameters bytes.now parameters → ⊥ }
 {
     match nested_array(alloc, bytes) {
         Err(fault) => Err(fault),
@@ -81,7 +85,8 @@ fn parameters_of(
     requires array { IsArray (items_of bytes.now elements.now) bytes.now }
     requires ranges { All (InRange bytes.now) elements.now }
     ensures ok { IfOk result (λ parameters. AreParameters bytes.now parameters) }
-    ensures malformed { result ≡ Err TransactionFault.Malformed → (parameters : List Parameter) → AreParameters bytes.now parameters → ⊥ }
+    ensures malformed { result ≡ Err TransactionFault.Malformed → (parameters : List Parameter) →
+        AreParameters bytes.now parameters → ⊥ }
 {
     one_reading();
     if elements.len() > MOST {
@@ -108,7 +113,8 @@ fn parameters_of(
 /// The grants of an array's bytes.
 fn read_grants(alloc: Global, bytes: &[u8]) -> Result<Items<Grant>, TransactionFault>
     ensures ok { IfOk result (λ grants. AreGrants bytes.now grants) }
-    ensures malformed { result ≡ Err TransactionFault.Malformed → (grants : List Grant) → AreGrants bytes.now grants → ⊥ }
+    ensures malformed { result ≡ Err TransactionFault.Malformed → (grants : List Grant) → AreGrants bytes.now grants →
+        ⊥ }
 {
     match nested_array(alloc, bytes) {
         Err(fault) => Err(fault),
@@ -125,7 +131,8 @@ fn grants_of(
     requires array { IsArray (items_of bytes.now elements.now) bytes.now }
     requires ranges { All (InRange bytes.now) elements.now }
     ensures ok { IfOk result (λ grants. AreGrants bytes.now grants) }
-    ensures malformed { result ≡ Err TransactionFault.Malformed → (grants : List Grant) → AreGrants bytes.now grants → ⊥ }
+    ensures malformed { result ≡ Err TransactionFault.Malformed → (grants : List Grant) → AreGrants bytes.now grants →
+        ⊥ }
 {
     one_reading();
     if elements.len() > MOST {
@@ -152,8 +159,10 @@ fn read_parameter(
     field: FieldId,
     bytes: &[u8],
 ) -> Result<Parameter, TransactionFault>
-    ensures ok { IfOk result (λ parameter. IsElement hook_parameter ParameterIs (record { field = field; value = bytes.now }) parameter) }
-    ensures malformed { result ≡ Err TransactionFault.Malformed → (parameter : Parameter) → IsElement hook_parameter ParameterIs (record { field = field; value = bytes.now }) parameter → ⊥ }
+    ensures ok { IfOk result
+        (λ parameter. IsElement hook_parameter ParameterIs (record { field = field; value = bytes.now }) parameter) }
+    ensures malformed { result ≡ Err TransactionFault.Malformed → (parameter : Parameter) →
+        IsElement hook_parameter ParameterIs (record { field = field; value = bytes.now }) parameter → ⊥ }
 {
     one_reading();
     if field.kind != 14 {
@@ -168,8 +177,10 @@ fn read_parameter(
 
 /// The grant of an element.
 fn read_grant(alloc: Global, field: FieldId, bytes: &[u8]) -> Result<Grant, TransactionFault>
-    ensures ok { IfOk result (λ grant. IsElement hook_grant GrantIs (record { field = field; value = bytes.now }) grant) }
-    ensures malformed { result ≡ Err TransactionFault.Malformed → (grant : Grant) → IsElement hook_grant GrantIs (record { field = field; value = bytes.now }) grant → ⊥ }
+    ensures ok { IfOk result
+        (λ grant. IsElement hook_grant GrantIs (record { field = field; value = bytes.now }) grant) }
+    ensures malformed { result ≡ Err TransactionFault.Malformed → (grant : Grant) →
+        IsElement hook_grant GrantIs (record { field = field; value = bytes.now }) grant → ⊥ }
 {
     one_reading();
     if field.kind != 14 {
@@ -185,7 +196,8 @@ fn read_grant(alloc: Global, field: FieldId, bytes: &[u8]) -> Result<Grant, Tran
 /// The parameter of an object's fields.
 fn parameter_of(alloc: Global, object: &Object) -> Result<Parameter, TransactionFault>
     ensures ok { IfOk result (λ parameter. ParameterIs (items object.now) parameter) }
-    ensures malformed { result ≡ Err TransactionFault.Malformed → (parameter : Parameter) → ParameterIs (items object.now) parameter → ⊥ }
+    ensures malformed { result ≡ Err TransactionFault.Malformed → (parameter : Parameter) →
+        ParameterIs (items object.now) parameter → ⊥ }
 {
     if !has_only(object, &[PARAMETER_NAME, PARAMETER_VALUE]) {
         return Err(TransactionFault::Malformed);
@@ -212,7 +224,8 @@ fn parameter_of(alloc: Global, object: &Object) -> Result<Parameter, Transaction
 /// The grant of an object's fields.
 fn grant_of(object: &Object) -> Result<Grant, TransactionFault>
     ensures ok { IfOk result (λ grant. GrantIs (items object.now) grant) }
-    ensures malformed { result ≡ Err TransactionFault.Malformed → (grant : Grant) → GrantIs (items object.now) grant → ⊥ }
+    ensures malformed { result ≡ Err TransactionFault.Malformed → (grant : Grant) → GrantIs (items object.now) grant →
+        ⊥ }
 {
     if !has_only(object, &[HOOK_HASH, AUTHORIZE]) {
         return Err(TransactionFault::Malformed);

@@ -6,7 +6,8 @@ ghost use Rattle.xo_fields.specs.Form.{form_at};
 ghost use Rattle.xo_list.specs.Item.{lookup};
 ghost use Rattle.xo_list.specs.Span.{items, items_of, InRange};
 ghost use Rattle.xo_list.specs.Value.{IsObject, IsArray, IsValue, HasFields, HasElements};
-ghost use Rattle.xo_object.specs.Transaction.{number16, number32, number64, HasHash, HasAccount, IsAmountOf, only, is_among};
+ghost use Rattle.xo_object.specs.Transaction.{number16, number32, number64, HasHash, HasAccount, IsAmountOf, only};
+ghost use Rattle.xo_object.specs.Transaction.{is_among};
 
 use hk_base::{AccountId, Hash256};
 use std::alloc::Global;

@@ -68,7 +68,15 @@ pub fn copy_terms(
     grants: &Items<Grant>,
     replace: bool,
 ) -> Result<Terms, NoMemory>
-    ensures same { IfOk result (λ terms. terms ≡ record { on = on; namespace = namespace; parameters = parameters.now; grants = grants.now; replace = replace }) }
+    ensures same { IfOk result (λ terms.
+        terms
+        ≡ record {
+          on = on;
+          namespace = namespace;
+          parameters = parameters.now;
+          grants = grants.now;
+          replace = replace;
+        }) }
 {
     let parameters = copy_parameters(parameters.allocator(), parameters.as_slice())?;
     let grants = grants.copy()?;

@@ -1,5 +1,6 @@
 //! Transactions of objects.
-ghost use Rattle.std.specs.Prelude.{◌≡◌, ◌<◌, ◌||◌, ◌==◌, ◌↔◌, ℕ, List, Option, Err, IfOk, IfSome, IfNone, IsTrue, is_some, Some, None};
+ghost use Rattle.std.specs.Prelude.{◌≡◌, ◌<◌, ◌||◌, ◌==◌, ◌↔◌, ℕ, List, Option, Err, IfOk, IfSome, IfNone, IsTrue};
+ghost use Rattle.std.specs.Prelude.{is_some, Some, None};
 ghost use Rattle.hk_base.specs.declared.ids.AccountId.{AccountId};
 ghost use Rattle.xo_fields.specs.declared.amount.Amount.{Amount};
 ghost use Rattle.xo_fields.specs.declared.amount.Amount.TheVariants.{Native};
@@ -8,7 +9,8 @@ ghost use Rattle.xo_object.specs.declared.transaction.Transaction.{Transaction};
 ghost use Rattle.xo_list.specs.Item.{lookup};
 ghost use Rattle.xo_object.specs.Names.{transaction_type, fee, hooks, emit_details};
 ghost use Rattle.xo_list.specs.Span.{items};
-ghost use Rattle.xo_object.specs.Transaction.{IsTransaction, CommonAre, PaidAre, IsAmountOf, IsPositive, PaymentIs, HooksAre, EmissionIs, DetailsAre, DetailsIn, number16};
+ghost use Rattle.xo_object.specs.Transaction.{IsTransaction, CommonAre, PaidAre, IsAmountOf, IsPositive, PaymentIs};
+ghost use Rattle.xo_object.specs.Transaction.{HooksAre, EmissionIs, DetailsAre, DetailsIn, number16};
 
 use crate::hooks::{parameters_or_none, read_hooks};
 use crate::lists::{copied, given_parameters};
@@ -34,15 +36,18 @@ const SET_HOOK: u16 = 22;
 
 /// The transaction of an object's fields, as it is sent or as a hook emits it.
 ///
-/// It is malformed where one of its rules is broken: a known type; the fields that each transaction has, with a native fee; a payment's
-/// destination and positive amount; a change of hooks' items; right parameters; and a sequence number and details as emitted or not.
+/// It is malformed where one of its rules is broken: a known type; the fields that each transaction has, with a native
+/// fee; a payment's
+/// destination and positive amount; a change of hooks' items; right parameters; and a sequence number and details as
+/// emitted or not.
 pub fn read_transaction(
     alloc: Global,
     object: &Object,
     emitted: bool,
 ) -> Result<Transaction, TransactionFault>
     ensures ok { IfOk result (λ transaction. IsTransaction (items object.now) object.now.bytes emitted transaction) }
-    ensures malformed { result ≡ Err TransactionFault.Malformed → (transaction : Transaction) → IsTransaction (items object.now) object.now.bytes emitted transaction → ⊥ }
+    ensures malformed { result ≡ Err TransactionFault.Malformed → (transaction : Transaction) →
+        IsTransaction (items object.now) object.now.bytes emitted transaction → ⊥ }
 {
     let common = common_of(object)?;
     let paid = paid_of(object, common.kind)?;
@@ -79,8 +84,10 @@ struct Common {
 }
 
 fn common_of(object: &Object) -> Result<Common, TransactionFault>
-    ensures ok { IfOk result (λ common. CommonAre (items object.now) common.kind common.account common.sequence common.fee) }
-    ensures malformed { result ≡ Err TransactionFault.Malformed → (kind : ℕ) → (account : AccountId) → (sequence : ℕ) → (fee : ℕ) → CommonAre (items object.now) kind account sequence fee → ⊥ }
+    ensures ok { IfOk result
+        (λ common. CommonAre (items object.now) common.kind common.account common.sequence common.fee) }
+    ensures malformed { result ≡ Err TransactionFault.Malformed → (kind : ℕ) → (account : AccountId) → (sequence : ℕ) →
+        (fee : ℕ) → CommonAre (items object.now) kind account sequence fee → ⊥ }
 {
     let kind = match kind_of(object) {
         None => return Err(TransactionFault::Malformed),
@@ -118,7 +125,8 @@ struct Paid {
 
 fn paid_of(object: &Object, kind: u16) -> Result<Paid, TransactionFault>
     ensures ok { IfOk result (λ paid. PaidAre (items object.now) kind paid.destination paid.amount) }
-    ensures malformed { result ≡ Err TransactionFault.Malformed → (destination : Option AccountId) → (amount : Option Amount) → PaidAre (items object.now) kind destination amount → ⊥ }
+    ensures malformed { result ≡ Err TransactionFault.Malformed → (destination : Option AccountId) →
+        (amount : Option Amount) → PaidAre (items object.now) kind destination amount → ⊥ }
 {
     one_amount();
     let destination = account_at(object, DESTINATION);
@@ -136,7 +144,9 @@ fn paid_of(object: &Object, kind: u16) -> Result<Paid, TransactionFault>
 fn kind_of(object: &Object) -> Option<u16>
     ensures some { IfSome result (λ kind. number16 transaction_type (items object.now) ≡ Some kind) }
     ensures known { IfSome result (λ kind. IsTrue (kind == 0 || kind == 3 || kind == 22 || kind == 99)) }
-    ensures none { IfNone result ((kind : ℕ) → number16 transaction_type (items object.now) ≡ Some kind → IsTrue (kind == 0 || kind == 3 || kind == 22 || kind == 99) → ⊥) }
+    ensures none { IfNone result
+        ((kind : ℕ) → number16 transaction_type (items object.now) ≡ Some kind →
+        IsTrue (kind == 0 || kind == 3 || kind == 22 || kind == 99) → ⊥) }
 {
     match number16_at(object, TRANSACTION_TYPE) {
         None => None,
@@ -211,8 +221,10 @@ fn emission_of(
     emitted: bool,
     sequence: u32,
 ) -> Result<Emission, TransactionFault>
-    ensures ok { IfOk result (λ emission. EmissionIs emitted (lookup emit_details (items object.now)) sequence emission.generation emission.burden) }
-    ensures malformed { result ≡ Err TransactionFault.Malformed → (generation : ℕ) → (burden : ℕ) → EmissionIs emitted (lookup emit_details (items object.now)) sequence generation burden → ⊥ }
+    ensures ok { IfOk result (λ emission.
+        EmissionIs emitted (lookup emit_details (items object.now)) sequence emission.generation emission.burden) }
+    ensures malformed { result ≡ Err TransactionFault.Malformed → (generation : ℕ) → (burden : ℕ) →
+        EmissionIs emitted (lookup emit_details (items object.now)) sequence generation burden → ⊥ }
 {
     match object.field(EMIT_DETAILS) {
         None => {
@@ -244,7 +256,8 @@ fn emission_of(
 
 fn details_of(alloc: Global, bytes: &[u8]) -> Result<Emission, TransactionFault>
     ensures ok { IfOk result (λ emission. DetailsAre bytes.now emission.generation emission.burden) }
-    ensures malformed { result ≡ Err TransactionFault.Malformed → (generation : ℕ) → (burden : ℕ) → DetailsAre bytes.now generation burden → ⊥ }
+    ensures malformed { result ≡ Err TransactionFault.Malformed → (generation : ℕ) → (burden : ℕ) →
+        DetailsAre bytes.now generation burden → ⊥ }
 {
     one_reading();
     let object = nested_object(alloc, bytes)?;
@@ -253,7 +266,8 @@ fn details_of(alloc: Global, bytes: &[u8]) -> Result<Emission, TransactionFault>
 
 fn details_in(object: &Object) -> Result<Emission, TransactionFault>
     ensures ok { IfOk result (λ emission. DetailsIn (items object.now) emission.generation emission.burden) }
-    ensures malformed { result ≡ Err TransactionFault.Malformed → (generation : ℕ) → (burden : ℕ) → DetailsIn (items object.now) generation burden → ⊥ }
+    ensures malformed { result ≡ Err TransactionFault.Malformed → (generation : ℕ) → (burden : ℕ) →
+        DetailsIn (items object.now) generation burden → ⊥ }
 {
     if !has_only(
         object,
@@ -291,7 +305,8 @@ fn details_in(object: &Object) -> Result<Emission, TransactionFault>
 /// The items of a change of hooks, and none of another type.
 fn hooks_for(alloc: Global, object: &Object, kind: u16) -> Result<Items<HookItem>, TransactionFault>
     ensures ok { IfOk result (λ found. HooksAre kind (lookup hooks (items object.now)) found) }
-    ensures malformed { result ≡ Err TransactionFault.Malformed → (found : List HookItem) → HooksAre kind (lookup hooks (items object.now)) found → ⊥ }
+    ensures malformed { result ≡ Err TransactionFault.Malformed → (found : List HookItem) →
+        HooksAre kind (lookup hooks (items object.now)) found → ⊥ }
 {
     if kind != SET_HOOK {
         return Ok(Items::new(alloc));

@@ -1,5 +1,6 @@
 -- Bytes in parts, and as texts and numbers.
-use Rattle.std.proofs.Common.{◌≡◌, ℕ, zero, suc, ◌-◌, ◌≤◌, Bool, List, [], ◌∷◌, ◌++◌, length, replicate, refl, sym, ap, subst, ◌∙◌, arith, Result, Ok, length-append}
+use Rattle.std.proofs.Common.{◌≡◌, ℕ, zero, suc, ◌-◌, ◌≤◌, Bool, List, [], ◌∷◌, ◌++◌, length, replicate, refl, sym, ap}
+use Rattle.std.proofs.Common.{subst, ◌∙◌, arith, Result, Ok, length-append}
 use Rattle.std.specs.Int.{w64, to_be_bytes, from_be_bytes}
 use Rattle.std.proofs.lemmas.List.{append_cancel_left, length-replicate}
 use Rattle.std.proofs.lemmas.Nat.{be_bytes_8}
@@ -45,17 +46,26 @@ same_ok xs ys e = cc
 
 pub one_hex : (xs ys : List ℕ) → AreBytes xs → AreBytes ys → hex_text xs ≡ hex_text ys → xs ≡ ys
 one_hex xs ys bx by e =
-    same_ok xs ys (sym (decode_of-encode_lower xs bx) ∙ ap decode_of (encode_lower-is xs ∙ e ∙ sym (encode_lower-is ys)) ∙ decode_of-encode_lower ys by)
+    same_ok xs ys
+    (sym (decode_of-encode_lower xs bx)
+    ∙ ap decode_of (encode_lower-is xs ∙ e ∙ sym (encode_lower-is ys))
+    ∙ decode_of-encode_lower ys by)
 
 -- one number is that of one list of so many bytes
-pub one_number_of : (n : ℕ) (xs ys : List ℕ) → n ≤ 8 → length xs ≡ n → length ys ≡ n → AreBytes xs → AreBytes ys → number_of_bytes xs ≡ number_of_bytes ys → xs ≡ ys
+pub one_number_of : (n : ℕ) (xs ys : List ℕ) → n ≤ 8 → length xs ≡ n → length ys ≡ n → AreBytes xs → AreBytes ys →
+    number_of_bytes xs ≡ number_of_bytes ys → xs ≡ ys
 one_number_of n xs ys few lx ly bx by e =
-    append_cancel_left (replicate (8 - n) 0) xs ys (wide xs lx bx (number_of_bytes xs) refl ∙ sym (wide ys ly by (number_of_bytes xs) e))
+    append_cancel_left (replicate (8 - n) 0) xs ys
+    (wide xs lx bx (number_of_bytes xs) refl ∙ sym (wide ys ly by (number_of_bytes xs) e))
   where
-    wide : (zs : List ℕ) → length zs ≡ n → AreBytes zs → (m : ℕ) → m ≡ number_of_bytes zs → replicate (8 - n) 0 ++ zs ≡ to_be_bytes w64 m
+    wide : (zs : List ℕ) → length zs ≡ n → AreBytes zs → (m : ℕ) → m ≡ number_of_bytes zs →
+        replicate (8 - n) 0 ++ zs ≡ to_be_bytes w64 m
     wide zs l small m is =
-        let long : length (replicate (8 - n) 0 ++ zs) ≡ 8 = omega (arith, length-append (replicate (8 - n) 0) zs, length-replicate {A = ℕ} (8 - n) 0, l) in
-        sym (be_bytes_8 (replicate (8 - n) 0 ++ zs) m long (joined_bytes (replicate (8 - n) 0) zs (zero_bytes (8 - n)) small) (is ∙ ap (λ k. from_be_bytes w64 (replicate (8 - k) 0 ++ zs)) l))
+        let long : length (replicate (8 - n) 0 ++ zs) ≡ 8 =
+        omega (arith, length-append (replicate (8 - n) 0) zs, length-replicate {A = ℕ} (8 - n) 0, l) in
+        sym (be_bytes_8 (replicate (8 - n) 0 ++ zs) m long
+        (joined_bytes (replicate (8 - n) 0) zs (zero_bytes (8 - n)) small)
+        (is ∙ ap (λ k. from_be_bytes w64 (replicate (8 - k) 0 ++ zs)) l))
 
 -- ---- the values of fields whose spelling is bytes
 

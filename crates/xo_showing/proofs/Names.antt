@@ -1,5 +1,6 @@
 -- The table of names, read in both directions.
-use Rattle.std.proofs.Common.{◌≡◌, ℕ, ◌<◌, ◌≤◌, ◌==◌, ◌&&◌, ◌⊎◌, inl, inr, Bool, true, false, List, [], ◌∷◌, get_or, nat_le, refl, sym, ap, subst, ◌∙◌, arith, Option, Some, None}
+use Rattle.std.proofs.Common.{◌≡◌, ℕ, ◌<◌, ◌≤◌, ◌==◌, ◌&&◌, ◌⊎◌, inl, inr, Bool, true, false, List, [], ◌∷◌, get_or}
+use Rattle.std.proofs.Common.{nat_le, refl, sym, ap, subst, ◌∙◌, arith, Option, Some, None}
 use Rattle.std.specs.Prelude.{nat_eq, is_some, IsSome}
 use Rattle.std.specs.Cmp.Lexicographic.{pointwise}
 use Rattle.std.proofs.lemmas.Bool.{and_parts}
@@ -68,51 +69,69 @@ field_is : (f : FieldId) (kind code : ℕ) → f.kind ≡ kind → f.code ≡ co
 field_is f kind code k c = λ i. record { kind = k i; code = c i }
 
 module _ (test : Test) where
-  first_passes : (kind : ℕ) (entry : List ℕ × ℕ) (rest : Names) → names_pass test kind (entry ∷ rest) ≡ true → (test kind entry.0 entry.1 ≡ true) × (names_pass test kind rest ≡ true)
+  first_passes : (kind : ℕ) (entry : List ℕ × ℕ) (rest : Names) → names_pass test kind (entry ∷ rest) ≡ true →
+      (test kind entry.0 entry.1 ≡ true) × (names_pass test kind rest ≡ true)
   first_passes kind entry rest pass = and_parts (test kind entry.0 entry.1) (names_pass test kind rest) pass
 
-  kind_passes : (entry : ℕ × Names) (rest : List (ℕ × Names)) → kinds_pass test (entry ∷ rest) ≡ true → (names_pass test entry.0 entry.1 ≡ true) × (kinds_pass test rest ≡ true)
+  kind_passes : (entry : ℕ × Names) (rest : List (ℕ × Names)) → kinds_pass test (entry ∷ rest) ≡ true →
+      (names_pass test entry.0 entry.1 ≡ true) × (kinds_pass test rest ≡ true)
   kind_passes entry rest pass = and_parts (names_pass test entry.0 entry.1) (kinds_pass test rest) pass
 
   -- the name at a code passes
-  coded_passes : (kind code : ℕ) (names : Names) (name : List ℕ) → names_pass test kind names ≡ true → name_coded code names ≡ Some name → test kind name code ≡ true
+  coded_passes : (kind code : ℕ) (names : Names) (name : List ℕ) → names_pass test kind names ≡ true →
+      name_coded code names ≡ Some name → test kind name code ≡ true
   coded_passes kind code [] name pass e = none_some name e
   coded_passes kind code (entry ∷ rest) name pass e =
       pick_equal (λ o. o ≡ Some name → test kind name code ≡ true) code entry.1 (Some entry.0) (name_coded code rest)
-      (λ is h. ap (λ n. test kind n code) (sym (some_same entry.0 name h)) ∙ ap (test kind entry.0) is ∙ (first_passes kind entry rest pass).0)
+      (λ is h.
+      ap (λ n. test kind n code) (sym (some_same entry.0 name h))
+      ∙ ap (test kind entry.0) is
+      ∙ (first_passes kind entry rest pass).0)
       (λ other h. coded_passes kind code rest name (first_passes kind entry rest pass).1 h) e
 
   -- the names of a kind pass
-  among_pass : (kind : ℕ) (ks : List (ℕ × Names)) → kinds_pass test ks ≡ true → names_pass test kind (names_among kind ks) ≡ true
+  among_pass : (kind : ℕ) (ks : List (ℕ × Names)) → kinds_pass test ks ≡ true →
+      names_pass test kind (names_among kind ks) ≡ true
   among_pass kind [] pass = refl
   among_pass kind (entry ∷ rest) pass =
       pick_equal (λ names. names_pass test kind names ≡ true) kind entry.0 entry.1 (names_among kind rest)
-      (λ is. ap (λ k. names_pass test k entry.1) is ∙ (kind_passes entry rest pass).0) (λ other. among_pass kind rest (kind_passes entry rest pass).1)
+      (λ is. ap (λ k. names_pass test k entry.1) is ∙ (kind_passes entry rest pass).0)
+      (λ other. among_pass kind rest (kind_passes entry rest pass).1)
 
   -- the name of a code passes at that code
-  named_passes : (kind : ℕ) (names : Names) (name : List ℕ) (code : ℕ) → names_pass test kind names ≡ true → code_named name names ≡ Some code → test kind name code ≡ true
+  named_passes : (kind : ℕ) (names : Names) (name : List ℕ) (code : ℕ) → names_pass test kind names ≡ true →
+      code_named name names ≡ Some code → test kind name code ≡ true
   named_passes kind [] name code pass e = none_some code e
   named_passes kind (entry ∷ rest) name code pass e =
-      pick (λ o. o ≡ Some code → test kind name code ≡ true) (pointwise nat_eq name entry.0) (Some entry.1) (code_named name rest)
-      (λ is h. ap (test kind name) (sym (some_same entry.1 code h)) ∙ ap (λ n. test kind n entry.1) ((bytes_eq-Decides name entry.0).0 is) ∙ (first_passes kind entry rest pass).0)
+      pick (λ o. o ≡ Some code → test kind name code ≡ true) (pointwise nat_eq name entry.0) (Some entry.1)
+      (code_named name rest)
+      (λ is h.
+      ap (test kind name) (sym (some_same entry.1 code h))
+      ∙ ap (λ n. test kind n entry.1) ((bytes_eq-Decides name entry.0).0 is)
+      ∙ (first_passes kind entry rest pass).0)
       (λ other h. named_passes kind rest name code (first_passes kind entry rest pass).1 h) e
 
-  found_in : (entry : ℕ × Names) (o : Option ℕ) (later : Option FieldId) (name : List ℕ) (f : FieldId) → ((code : ℕ) → o ≡ Some code → test entry.0 name code ≡ true) → (later ≡ Some f → test f.kind name f.code ≡ true) →
+  found_in : (entry : ℕ × Names) (o : Option ℕ) (later : Option FieldId) (name : List ℕ) (f : FieldId) →
+      ((code : ℕ) → o ≡ Some code → test entry.0 name code ≡ true) → (later ≡ Some f → test f.kind name f.code ≡ true) →
       named_by entry.0 o later ≡ Some f → test f.kind name f.code ≡ true
   found_in entry None later name f here more h = more h
   found_in entry (Some code) later name f here more h =
-      subst (λ (g : FieldId). test g.kind name g.code ≡ true) (some_same (record { kind = entry.0; code = code }) f h) (here code refl)
+      subst (λ (g : FieldId). test g.kind name g.code ≡ true) (some_same (record { kind = entry.0; code = code }) f h)
+      (here code refl)
 
   -- and the name of a field at its kind and code
-  field_passes : (ks : List (ℕ × Names)) (name : List ℕ) (f : FieldId) → kinds_pass test ks ≡ true → named_among name ks ≡ Some f → test f.kind name f.code ≡ true
+  field_passes : (ks : List (ℕ × Names)) (name : List ℕ) (f : FieldId) → kinds_pass test ks ≡ true →
+      named_among name ks ≡ Some f → test f.kind name f.code ≡ true
   field_passes [] name f pass e = none_some f e
   field_passes (entry ∷ rest) name f pass e =
-      found_in entry (code_named name entry.1) (named_among name rest) name f (λ code is. named_passes entry.0 entry.1 name code (kind_passes entry rest pass).0 is)
+      found_in entry (code_named name entry.1) (named_among name rest) name f
+      (λ code is. named_passes entry.0 entry.1 name code (kind_passes entry rest pass).0 is)
       (λ h. field_passes rest name f (kind_passes entry rest pass).1 h) e
 
 -- ---- a field has a name exactly where the name is the field's
 
-is_there : (kind code : ℕ) (o : Option FieldId) → is_at kind code o ≡ true → o ≡ Some (record { kind = kind; code = code })
+is_there : (kind code : ℕ) (o : Option FieldId) → is_at kind code o ≡ true →
+    o ≡ Some (record { kind = kind; code = code })
 is_there kind code None e = absurd cc
 is_there kind code (Some f) e =
     let both : ((f.kind == kind) ≡ true) × ((f.code == code) ≡ true) = and_parts (f.kind == kind) (f.code == code) e in
@@ -125,23 +144,34 @@ is_its name (Some other) e = ap Some (sym ((bytes_eq-Decides name other).0 e))
 pub names_back : NamesBack
 unfolding name_of
 names_back f name = (
-  λ e. is_there f.kind f.code (field_named name) (coded_passes found_by_name f.kind f.code (names_among f.kind kinds) name (among_pass found_by_name f.kind kinds all_by_name) e),
-  λ e. is_its name (name_coded f.code (names_among f.kind kinds)) (field_passes found_by_field kinds name f all_by_field e),
+  λ e.
+      is_there f.kind f.code (field_named name) (coded_passes found_by_name f.kind f.code (names_among f.kind kinds)
+      name
+      (among_pass found_by_name f.kind kinds all_by_name) e),
+  λ e.
+      is_its name (name_coded f.code (names_among f.kind kinds))
+      (field_passes found_by_field kinds name f all_by_field e),
 )
 
 -- a name begins with a letter
 pub begins : (name : List ℕ) (f : FieldId) → field_named name ≡ Some f → 65 ≤ get_or name 0 0
-begins name f e = let is : nat_le 65 (get_or name 0 0) ≡ true = field_passes begins_so kinds name f all_begin e in grind (arith, nat_tests)
+begins name f e =
+    let is : nat_le 65 (get_or name 0 0) ≡ true = field_passes begins_so kinds name f all_begin e in
+    grind (arith, nat_tests)
 
 -- a named field is one, and its kind has a form
 pub named_known : (name : List ℕ) (f : FieldId) → field_named name ≡ Some f → IsField f × IsSome (form_at f.kind)
 named_known name f e =
-    let both : (is_field f ≡ true) × (is_some (form_at f.kind) ≡ true) = and_parts (is_field f) (is_some (form_at f.kind)) (field_passes is_known kinds name f all_known e) in
-    let tests : _ = field_tests f both.0 in
-    (record { kind = tests.0; code = tests.1; kind_byte = tests.2; code_byte = tests.3; no_mark = no_mark f both.0 }, both.1)
+    let both : (is_field f ≡ true) × (is_some (form_at f.kind) ≡ true) =
+    and_parts (is_field f) (is_some (form_at f.kind)) (field_passes is_known kinds name f all_known e) in
+    let tests : _ = field_tests f both.0 in (
+      record { kind = tests.0; code = tests.1; kind_byte = tests.2; code_byte = tests.3; no_mark = no_mark f both.0 },
+      both.1,
+    )
   where
     field_tests : (g : FieldId) → is_field g ≡ true → (0 < g.kind) × (0 < g.code) × (g.kind < 256) × (g.code < 256)
-    field_tests g h = (grind (arith, nat_tests), grind (arith, nat_tests), grind (arith, nat_tests), grind (arith, nat_tests))
+    field_tests g h =
+        (grind (arith, nat_tests), grind (arith, nat_tests), grind (arith, nat_tests), grind (arith, nat_tests))
 
     no_mark : (g : FieldId) → is_field g ≡ true → g.code ≡ 1 → (g.kind ≡ 14) ⊎ (g.kind ≡ 15) → ⊥
     no_mark g h c (inl k) = grind (arith, nat_tests)

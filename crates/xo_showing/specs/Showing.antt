@@ -1,8 +1,10 @@
 -- How an object shows as a JSON value (this project's own, with the names of xrpl.org, "Serialization Format").
-use Rattle.std.specs.Prelude.{ℕ, zero, suc, nat_le, codes, true, false, List, [], ◌∷◌, Option, Some, None, if◌then◌else◌}
+use Rattle.std.specs.Prelude.{ℕ, zero, suc, nat_le, codes, true, false, List, [], ◌∷◌, Option, Some, None}
+use Rattle.std.specs.Prelude.{if◌then◌else◌}
 use Rattle.std.specs.Fmt.{decimal, signed_decimal}
 use Rattle.hk_base.specs.Hexadecimal.{hex_text}
-use Rattle.serde_json.specs.Data.{Data, null, number, string, array, object, unsigned, Items, no_items, item, Members, no_members, member, put}
+use Rattle.serde_json.specs.Data.{Data, null, number, string, array, object, unsigned, Items, no_items, item, Members}
+use Rattle.serde_json.specs.Data.{no_members, member, put}
 use Rattle.xo_fields.specs.declared.amount.Amount.{Amount}
 use Rattle.xo_fields.specs.declared.amount.Amount.TheVariants.{Native, Issued}
 use Rattle.xo_fields.specs.declared.form.Form.{Form}

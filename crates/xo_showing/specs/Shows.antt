@@ -1,6 +1,7 @@
 -- Which texts show an object: hex digits may have either case.
 use Rattle.std.specs.Prelude.{◌≡◌, ◌+◌, ◌&&◌, ℕ, nat_le, List, map, Some, if◌then◌else◌}
-use Rattle.serde_json.specs.Data.{Data, null, boolean, number, string, array, object, Items, no_items, item, Members, no_members, member}
+use Rattle.serde_json.specs.Data.{Data, null, boolean, number, string, array, object, Items, no_items, item, Members}
+use Rattle.serde_json.specs.Data.{no_members, member}
 use Rattle.serde_json.specs.Read.{read}
 use Rattle.xo_list.specs.Item.{Item}
 use Rattle.xo_showing.specs.Showing.{showing}

@@ -1,5 +1,7 @@
 -- A value without fields in it is told where it shows so.
-use Rattle.std.proofs.Common.{◌≡◌, ℕ, zero, suc, ◌+◌, ◌-◌, ◌<◌, ◌≤◌, ◌^◌, ◌&&◌, Bool, true, false, List, [], ◌∷◌, ◌++◌, length, replicate, drop, nat_le, refl, sym, ap, subst, ◌∙◌, arith, Some, Ok, Err, if◌then◌else◌, length-append}
+use Rattle.std.proofs.Common.{◌≡◌, ℕ, zero, suc, ◌+◌, ◌-◌, ◌<◌, ◌≤◌, ◌^◌, ◌&&◌, Bool, true, false, List, [], ◌∷◌, ◌++◌}
+use Rattle.std.proofs.Common.{length, replicate, drop, nat_le, refl, sym, ap, subst, ◌∙◌, arith, Some, Ok, Err}
+use Rattle.std.proofs.Common.{if◌then◌else◌, length-append}
 use Rattle.std.specs.Prelude.{pos, bytes_eq, Decides, unwrap_or}
 use Rattle.std.specs.Fmt.{decimal, signed_decimal}
 use Rattle.std.specs.Int.{w64, to_be_bytes, from_be_bytes, cast_unsigned}
@@ -30,7 +32,8 @@ use Rattle.xo_showing.proofs.Bytes.{front_bytes, back_bytes, joined_bytes}
 use Rattle.xo_told.specs.declared.fault.JsonFault.{JsonFault}
 use Rattle.xo_told.specs.declared.fault.JsonFault.TheVariants.{BadValue}
 use Rattle.xo_told.specs.Faults.{IsNone}
-use Rattle.xo_told.specs.Guesses.{hex_in, number_in, money_guess, value_guess, are_bytes, is_plain, same_data, same_members}
+use Rattle.xo_told.specs.Guesses.{hex_in, number_in, money_guess, value_guess, are_bytes, is_plain, same_data}
+use Rattle.xo_told.specs.Guesses.{same_members}
 use Rattle.xo_told.specs.Reading.{ShowsValue}
 use Rattle.xo_told.specs.Told.{Told, plain_if, plain_told}
 use Rattle.xo_told.proofs.Steps.{both, ok_same, err_same, ok_err, err_ok}
@@ -46,11 +49,16 @@ are_bytes_so bytes = (sound bytes, complete bytes)
 
     sound : (bs : List ℕ) → are_bytes bs ≡ true → AreBytes bs
     sound [] e = λ i. omega arith
-    sound (b ∷ bs) e = let parts = (Decides-and _ _ (nat_below b 256) (λ (h : are_bytes bs ≡ true). h, λ (h : are_bytes bs ≡ true). h)).0 e in more b bs parts.0 (sound bs parts.1)
+    sound (b ∷ bs) e =
+        let parts =
+        (Decides-and _ _ (nat_below b 256) (λ (h : are_bytes bs ≡ true). h, λ (h : are_bytes bs ≡ true). h)).0 e in
+        more b bs parts.0 (sound bs parts.1)
 
     complete : (bs : List ℕ) → AreBytes bs → are_bytes bs ≡ true
     complete [] small = refl
-    complete (b ∷ bs) small = (Decides-and _ _ (nat_below b 256) (λ (h : are_bytes bs ≡ true). h, λ (h : are_bytes bs ≡ true). h)).1 (small 0, complete bs (λ i. small (suc i)))
+    complete (b ∷ bs) small =
+        (Decides-and _ _ (nat_below b 256) (λ (h : are_bytes bs ≡ true). h, λ (h : are_bytes bs ≡ true). h)).1
+        (small 0, complete bs (λ i. small (suc i)))
 
 is_plain_so : (form : Form) (value : List ℕ) → Decides (is_plain form value) (IsValue 0 form value)
 is_plain_so (Fixed size) value = nat_same (length value) size
@@ -86,13 +94,18 @@ same_text s = (lists_same s s).1 refl
 same_amount : (a : Amount) → same_data (amount_shown a) (amount_shown a) ≡ true
 same_amount (Native drops) = same_text (decimal drops)
 same_amount (Issued value currency issuer) =
-    and_also (same_data (hex currency) (hex currency)) _ (same_text (hex_text currency)) (and_also (same_data (hex issuer) (hex issuer)) _ (same_text (hex_text issuer))
-    (and_also (same_data (string (signed_decimal value)) (string (signed_decimal value))) _ (same_text (signed_decimal value)) refl))
+    and_also (same_data (hex currency) (hex currency)) _ (same_text (hex_text currency)) (and_also
+    (same_data (hex issuer) (hex issuer)) _ (same_text (hex_text issuer))
+    (and_also (same_data (string (signed_decimal value)) (string (signed_decimal value))) _
+    (same_text (signed_decimal value)) refl))
 
-same_again : (form : Form) (value : List ℕ) → IsValue 0 form value → same_data (shown 0 form value) (shown 0 form value) ≡ true
+same_again : (form : Form) (value : List ℕ) → IsValue 0 form value →
+    same_data (shown 0 form value) (shown 0 form value) ≡ true
 same_again (Fixed size) value h = at (nat_le size 4)
   where
-    at : (small : Bool) → same_data (if small then number (unsigned (number_of_bytes value)) else hex value) (if small then number (unsigned (number_of_bytes value)) else hex value) ≡ true
+    at : (small : Bool) →
+        same_data (if small then number (unsigned (number_of_bytes value)) else hex value)
+        (if small then number (unsigned (number_of_bytes value)) else hex value) ≡ true
     at true = (nat_same (number_of_bytes value) (number_of_bytes value)).1 refl
     at false = same_text (hex_text value)
 same_again Money value (a, valid, is) =
@@ -107,26 +120,37 @@ same_again Array value h = absurd h
 
 hex_again : (bytes : List ℕ) → AreBytes bytes → hex_in (hex bytes) ≡ bytes
 hex_again bytes small =
-    ap (λ o. unwrap_or o []) (sym (decode_of-is (hex_text bytes)) ∙ ap (λ t. value_of (decode_of t)) (sym (encode_lower-is bytes)) ∙ ap value_of (decode_of-encode_lower bytes small))
+    ap (λ o. unwrap_or o [])
+    (sym (decode_of-is (hex_text bytes))
+    ∙ ap (λ t. value_of (decode_of t)) (sym (encode_lower-is bytes))
+    ∙ ap value_of (decode_of-encode_lower bytes small))
 
 zero_bytes : (n : ℕ) → AreBytes (replicate n 0)
 zero_bytes zero i = omega arith
 zero_bytes (suc n) zero = omega arith
 zero_bytes (suc n) (suc i) = zero_bytes n i
 
-number_again : (size : ℕ) (value : List ℕ) → size ≤ 4 → length value ≡ size → AreBytes value → drop (8 - size) (to_be_bytes w64 (number_of_bytes value)) ≡ value
+number_again : (size : ℕ) (value : List ℕ) → size ≤ 4 → length value ≡ size → AreBytes value →
+    drop (8 - size) (to_be_bytes w64 (number_of_bytes value)) ≡ value
 number_again size value few long small =
     let zeros : List ℕ = replicate (8 - size) 0 in
-    let all : length (zeros ++ value) ≡ 8 = omega (arith, length-append zeros value, length-replicate {A = ℕ} (8 - size) 0, long) in
-    let same : number_of_bytes value ≡ from_be_bytes w64 (zeros ++ value) = ap (λ k. from_be_bytes w64 (replicate (8 - k) 0 ++ value)) long in
-    ap (drop (8 - size)) (be_bytes_8 (zeros ++ value) (number_of_bytes value) all (joined_bytes zeros value (zero_bytes (8 - size)) small) same)
+    let all : length (zeros ++ value) ≡ 8 =
+    omega (arith, length-append zeros value, length-replicate {A = ℕ} (8 - size) 0, long) in
+    let same : number_of_bytes value ≡ from_be_bytes w64 (zeros ++ value) =
+    ap (λ k. from_be_bytes w64 (replicate (8 - k) 0 ++ value)) long in
+    ap (drop (8 - size)) (be_bytes_8 (zeros ++ value) (number_of_bytes value) all
+    (joined_bytes zeros value (zero_bytes (8 - size)) small) same)
     ∙ drop_at zeros value (8 - size) (length-replicate {A = ℕ} (8 - size) 0)
 
-fixed_again : (size : ℕ) (value : List ℕ) → length value ≡ size → AreBytes value → value_guess (Fixed size) (shown 0 (Fixed size) value) ≡ value
+fixed_again : (size : ℕ) (value : List ℕ) → length value ≡ size → AreBytes value →
+    value_guess (Fixed size) (shown 0 (Fixed size) value) ≡ value
 fixed_again size value long small = at (nat_le size 4) refl
   where
     at : (few : Bool) → nat_le size 4 ≡ few →
-        (if few then drop (8 - size) (to_be_bytes w64 (number_in (if few then number (unsigned (number_of_bytes value)) else hex value))) else hex_in (if few then number (unsigned (number_of_bytes value)) else hex value)) ≡ value
+        (if few
+        then drop (8 - size)
+        (to_be_bytes w64 (number_in (if few then number (unsigned (number_of_bytes value)) else hex value)))
+        else hex_in (if few then number (unsigned (number_of_bytes value)) else hex value)) ≡ value
     at true e = let is : size ≤ 4 = grind (arith, nat_tests) in number_again size value is long small
     at false e = hex_again value small
 
@@ -137,10 +161,13 @@ amount_again (Issued value c i) ((bits, same, decimal), lc, li) small =
     let currency : hex_in (hex c) ≡ c = hex_again c (front_bytes c i own) in
     let issuer : hex_in (hex i) ≡ i = hex_again i (back_bytes c i own) in
     let worth : pos (digits_value 10 (signed_decimal value)) ≡ value =
-    ap (λ z. pos (digits_value 10 (signed_decimal z))) same ∙ ap pos (decimal_is_IsNumeral bits (omega (arith, decimal-below bits decimal))).1 ∙ sym same in
+    ap (λ z. pos (digits_value 10 (signed_decimal z))) same
+    ∙ ap pos (decimal_is_IsNumeral bits (omega (arith, decimal-below bits decimal))).1
+    ∙ sym same in
     λ k. amount_bytes (Issued (worth k) (currency k) (issuer k))
 
-guess_again : (form : Form) (value : List ℕ) → AreBytes value → IsValue 0 form value → value_guess form (shown 0 form value) ≡ value
+guess_again : (form : Form) (value : List ℕ) → AreBytes value → IsValue 0 form value →
+    value_guess form (shown 0 form value) ≡ value
 guess_again (Fixed size) value small h = fixed_again size value h small
 guess_again Money value small (a, valid, is) =
     let found : amount_of value ≡ Some a = (amount_found value).complete a (valid, is) in
@@ -159,17 +186,25 @@ test_sound : (form : Form) (d : Data) (value : List ℕ) → test form (lowered 
 test_sound form d value e =
     let bytes = both (are_bytes value) (is_plain form value && same_data (shown 0 form value) (lowered d)) e in
     let fits = both (is_plain form value) (same_data (shown 0 form value) (lowered d)) bytes.1 in
-    record { bytes = (are_bytes_so value).0 bytes.0; fits = (is_plain_so form value).0 fits.0; shows = sym (same_sound (shown 0 form value) (lowered d) fits.1) }
+    record {
+      bytes = (are_bytes_so value).0 bytes.0;
+      fits = (is_plain_so form value).0 fits.0;
+      shows = sym (same_sound (shown 0 form value) (lowered d) fits.1);
+    }
 
-test_complete : (form : Form) (d : Data) (value : List ℕ) → ShowsValue 0 form d value → test form (lowered d) value ≡ true
+test_complete : (form : Form) (d : Data) (value : List ℕ) → ShowsValue 0 form d value →
+    test form (lowered d) value ≡ true
 test_complete form d value s =
-    and_also (are_bytes value) _ ((are_bytes_so value).1 s.bytes) (and_also (is_plain form value) _ ((is_plain_so form value).1 s.fits)
+    and_also (are_bytes value) _ ((are_bytes_so value).1 s.bytes) (and_also (is_plain form value) _
+    ((is_plain_so form value).1 s.fits)
     (ap (same_data (shown 0 form value)) s.shows ∙ same_again form value s.fits))
 
-shown_guess : (form : Form) (d : Data) (value : List ℕ) → ShowsValue 0 form d value → value_guess form (lowered d) ≡ value
+shown_guess : (form : Form) (d : Data) (value : List ℕ) → ShowsValue 0 form d value →
+    value_guess form (lowered d) ≡ value
 shown_guess form d value s = ap (value_guess form) s.shows ∙ guess_again form value s.bytes s.fits
 
-pub plain_complete : (form : Form) (d : Data) (value : List ℕ) → ShowsValue 0 form d value → plain_told form d ≡ Ok value
+pub plain_complete : (form : Form) (d : Data) (value : List ℕ) → ShowsValue 0 form d value →
+    plain_told form d ≡ Ok value
 plain_complete form d value s =
     ap (plain_if form (lowered d)) (shown_guess form d value s)
     ∙ ap {A = Bool} {B = Told (List ℕ)} (λ b. if b then Ok value else Err BadValue) (test_complete form d value s)
@@ -180,20 +215,26 @@ plain_sound form d value e = at (test form (lowered d) guess) refl e
     guess : List ℕ
     guess = value_guess form (lowered d)
 
-    at : (b : Bool) → test form (lowered d) guess ≡ b → (if b then Ok guess else Err BadValue) ≡ Ok value → ShowsValue 0 form d value
+    at : (b : Bool) → test form (lowered d) guess ≡ b → (if b then Ok guess else Err BadValue) ≡ Ok value →
+        ShowsValue 0 form d value
     at true t h = subst (ShowsValue 0 form d) (ok_same guess value h) (test_sound form d guess t)
     at false t h = err_ok value BadValue h
 
 pub plain_fails : (form : Form) (d : Data) (fault : JsonFault) → plain_told form d ≡ Err fault → IsNone 0 form d fault
 plain_fails form d fault e = at (test form (lowered d) (value_guess form (lowered d))) refl e
   where
-    at : (b : Bool) → test form (lowered d) (value_guess form (lowered d)) ≡ b → (if b then Ok (value_guess form (lowered d)) else Err BadValue) ≡ Err fault → IsNone 0 form d fault
+    at : (b : Bool) → test form (lowered d) (value_guess form (lowered d)) ≡ b →
+        (if b then Ok (value_guess form (lowered d)) else Err BadValue) ≡ Err fault → IsNone 0 form d fault
     at true t h = ok_err (value_guess form (lowered d)) fault h
-    at false t h = (sym (err_same (List ℕ) BadValue fault h), λ value s. ok_err {A = List ℕ} value fault (sym (plain_complete form d value s) ∙ e))
+    at false t h = (
+      sym (err_same (List ℕ) BadValue fault h),
+      λ value s. ok_err {A = List ℕ} value fault (sym (plain_complete form d value s) ∙ e),
+    )
 
 pub plain_none : (form : Form) (d : Data) (fault : JsonFault) → IsNone 0 form d fault → plain_told form d ≡ Err fault
 plain_none form d fault (bad, none) = at (test form (lowered d) (value_guess form (lowered d))) refl
   where
-    at : (b : Bool) → test form (lowered d) (value_guess form (lowered d)) ≡ b → (if b then Ok (value_guess form (lowered d)) else Err BadValue) ≡ Err fault
+    at : (b : Bool) → test form (lowered d) (value_guess form (lowered d)) ≡ b →
+        (if b then Ok (value_guess form (lowered d)) else Err BadValue) ≡ Err fault
     at true t = absurd (none (value_guess form (lowered d)) (test_sound form d (value_guess form (lowered d)) t))
     at false t = λ i. Err (sym bad i)

@@ -22,11 +22,13 @@ ok_err x f e = cc e
 pub err_ok : {A P : Type 0} (x : A) (f : JsonFault) → refused A f ≡ kept x → P
 err_ok x f e = cc e
 
-pub then_ok : {A B : Type 0} (next : A → Told B) (r : Told A) (y : B) → told_then next r ≡ Ok y → (x : A) × (r ≡ Ok x) × (next x ≡ Ok y)
+pub then_ok : {A B : Type 0} (next : A → Told B) (r : Told A) (y : B) → told_then next r ≡ Ok y →
+    (x : A) × (r ≡ Ok x) × (next x ≡ Ok y)
 then_ok next (Ok x) y e = (x, refl, e)
 then_ok next (Err f) y e = err_ok y f e
 
-pub then_err : {A B : Type 0} (next : A → Told B) (r : Told A) (f : JsonFault) → told_then next r ≡ Err f → (r ≡ Err f) ⊎ ((x : A) × (r ≡ Ok x) × (next x ≡ Err f))
+pub then_err : {A B : Type 0} (next : A → Told B) (r : Told A) (f : JsonFault) → told_then next r ≡ Err f →
+    (r ≡ Err f) ⊎ ((x : A) × (r ≡ Ok x) × (next x ≡ Err f))
 then_err next (Ok x) f e = inr (x, refl, e)
 then_err {A} {B} next (Err g) f e = inl (λ i. Err (err_same B g f e i))
 
@@ -37,15 +39,6 @@ map_ok f (Err g) y e = err_ok y g e
 pub map_err : {A B : Type 0} (f : A → B) (r : Told A) (g : JsonFault) → told_map f r ≡ Err g → r ≡ Err g
 map_err f (Ok x) g e = ok_err (f x) g e
 map_err {A} {B} f (Err h) g e = λ i. Err (err_same B h g e i)
-
--- options
-pub some_then : {A B : Type 0} (f : A → Option B) (o : Option A) (y : B) → option_and_then f o ≡ Some y → (x : A) × (o ≡ Some x) × (f x ≡ Some y)
-some_then f (Some x) y e = (x, refl, e)
-some_then f None y e = cc e
-
-pub some_map : {A B : Type 0} (f : A → B) (o : Option A) (y : B) → option_map f o ≡ Some y → (x : A) × (o ≡ Some x) × (f x ≡ y)
-some_map f (Some x) y e = (x, refl, cc e)
-some_map f None y e = cc e
 
 -- tests
 pub both : (a b : Bool) → a && b ≡ true → (a ≡ true) × (b ≡ true)

@@ -1,5 +1,6 @@
 -- A text is told to show what it shows, and refused as it fails.
-use Rattle.std.proofs.Common.{◌≡◌, ℕ, zero, suc, ◌⊎◌, inl, inr, Bool, true, false, List, refl, sym, subst, ◌∙◌, Option, Some, None, Ok, Err, if◌then◌else◌}
+use Rattle.std.proofs.Common.{◌≡◌, ℕ, zero, suc, ◌⊎◌, inl, inr, Bool, true, false, List, refl, sym, subst, ◌∙◌, Option}
+use Rattle.std.proofs.Common.{Some, None, Ok, Err, if◌then◌else◌}
 use Rattle.std.specs.Prelude.{IsUtf8}
 use Rattle.std.specs.Str.{is_utf8}
 use Rattle.std.proofs.lemmas.Str.{IsUtf8-from_is_utf8, is_utf8-from_IsUtf8}
@@ -11,7 +12,8 @@ use Rattle.xo_fields.proofs.Cases.{none_some}
 use Rattle.xo_list.specs.Item.{Item}
 use Rattle.xo_told.specs.declared.fault.JsonFault.{JsonFault}
 use Rattle.xo_told.specs.declared.fault.JsonFault.TheVariants.{BadText, BadKey, BadValue, TooDeep, NoMemory}
-use Rattle.xo_told.specs.Faults.{MembersFail, ObjectFails, ElementFails, ItemsFail, ArrayFails, ValueFails, ReadFails, Refuses}
+use Rattle.xo_told.specs.Faults.{MembersFail, ObjectFails, ElementFails, ItemsFail, ArrayFails, ValueFails, ReadFails}
+use Rattle.xo_told.specs.Faults.{Refuses}
 use Rattle.xo_told.specs.Laws.{ShowsObject, TellsFields, TellsFaults, NeverMemory}
 use Rattle.xo_told.specs.Reading.{ShowsValue}
 use Rattle.xo_told.specs.Told.{value_told, fields_told, told_of, told}
@@ -38,8 +40,10 @@ bad_value fault e = subst OfValue (sym e) tt
 bad_key : (fault : JsonFault) → fault ≡ BadKey → OfValue fault
 bad_key fault e = subst OfValue (sym e) tt
 
-module _ (room : ℕ) (each : (form : Form) (d : Data) (fault : JsonFault) → ValueFails room form d fault → OfValue fault) where
-  of_members : (ms : Members) (fault : JsonFault) → MembersFail (ValueFails room) (ShowsValue room) ms fault → OfValue fault
+module _ (room : ℕ)
+    (each : (form : Form) (d : Data) (fault : JsonFault) → ValueFails room form d fault → OfValue fault) where
+  of_members : (ms : Members) (fault : JsonFault) → MembersFail (ValueFails room) (ShowsValue room) ms fault →
+      OfValue fault
   of_members no_members fault fails = absurd fails
   of_members (member text d ms) fault (inl (inl (bad, none))) = bad_key fault bad
   of_members (member text d ms) fault (inl (inr (f, form, k, fails))) = each form d fault fails
@@ -82,7 +86,9 @@ told_true text d utf8 e = told_is text ∙ (λ i. if is_utf8-from_IsUtf8 text ut
 
 -- the text reads as this, or not at all
 abbrev pub Cases : List ℕ → Type 0
-Cases text = ((IsUtf8 text → read text ≡ None) × (told text ≡ Err BadText)) ⊎ ((d : Data) × IsUtf8 text × (read text ≡ Some d) × (told text ≡ fields_told (value_told 10) d))
+Cases text =
+    ((IsUtf8 text → read text ≡ None) × (told text ≡ Err BadText))
+    ⊎ ((d : Data) × IsUtf8 text × (read text ≡ Some d) × (told text ≡ fields_told (value_told 10) d))
 
 cases : (text : List ℕ) → Cases text
 cases text = at (is_utf8 text) refl (read text) refl
@@ -90,7 +96,12 @@ cases text = at (is_utf8 text) refl (read text) refl
     at : (b : Bool) → is_utf8 text ≡ b → (o : Option Data) → read text ≡ o → Cases text
     at true u (Some d) e = inr (d, IsUtf8-from_is_utf8 text u, e, told_true text d (IsUtf8-from_is_utf8 text u) e)
     at true u None e = inl (λ utf8. e, told_is text ∙ (λ i. if u i then told_of (e i) else Err BadText))
-    at false u o e = inl (λ utf8. absurd (never (is_utf8 text) (is_utf8-from_IsUtf8 text utf8) u), told_is text ∙ (λ i. if u i then told_of (read text) else Err BadText))
+    at false u o e =
+        inl (
+          λ utf8.
+              absurd (never (is_utf8 text) (is_utf8-from_IsUtf8 text utf8) u),
+          told_is text ∙ (λ i. if u i then told_of (read text) else Err BadText),
+        )
 
 sound : (text : List ℕ) (xs : List Item) → told text ≡ Ok xs → ShowsObject text xs
 sound text xs h = elim (cases text) [
@@ -103,7 +114,9 @@ sound text xs h = elim (cases text) [
 complete : (text : List ℕ) (xs : List Item) → ShowsObject text xs → told text ≡ Ok xs
 complete text xs s =
     let (d, e, shows) = s.shows in
-    told_true text d s.utf8 e ∙ fields_complete 10 (value_told 10) (tells 10) d xs (read_ordered text d e) (record { fits = s.fits; bytes = s.bytes; shows = shows })
+    told_true text d s.utf8 e
+    ∙ fields_complete 10 (value_told 10) (tells 10) d xs (read_ordered text d e)
+    (record { fits = s.fits; bytes = s.bytes; shows = shows })
 
 read_fails : (text : List ℕ) (fault : JsonFault) → OfValue fault → ReadFails text fault → Refuses text fault
 read_fails text BadText of fails = absurd of
@@ -112,7 +125,9 @@ read_fails text BadValue of fails = fails
 read_fails text TooDeep of fails = fails
 read_fails text NoMemory of fails = absurd of
 
-failing : (text : List ℕ) (d : Data) (fault : JsonFault) → read text ≡ Some d → told text ≡ fields_told (value_told 10) d → told text ≡ Err fault → ObjectFails (ValueFails 10) (ShowsValue 10) d fault
+failing : (text : List ℕ) (d : Data) (fault : JsonFault) → read text ≡ Some d →
+    told text ≡ fields_told (value_told 10) d → told text ≡ Err fault →
+    ObjectFails (ValueFails 10) (ShowsValue 10) d fault
 failing text d fault e is h = fields_fail 10 (value_told 10) (tells 10) d fault (read_ordered text d e) (sym is ∙ h)
 
 refused : (text : List ℕ) (fault : JsonFault) → told text ≡ Err fault → Refuses text fault
@@ -124,7 +139,8 @@ refused text fault h = elim (cases text) [
 ]
 
 refuses : (text : List ℕ) (fault : JsonFault) → ReadFails text fault → told text ≡ Err fault
-refuses text fault (d, utf8, e, fails) = told_true text d utf8 e ∙ fields_refuse 10 (value_told 10) (tells 10) d fault (read_ordered text d e) fails
+refuses text fault (d, utf8, e, fails) =
+    told_true text d utf8 e ∙ fields_refuse 10 (value_told 10) (tells 10) d fault (read_ordered text d e) fails
 
 refuses_all : (text : List ℕ) (fault : JsonFault) → (fault ≡ NoMemory → ⊥) → Refuses text fault → told text ≡ Err fault
 refuses_all text BadText some none = elim (cases text) [ inl c ↦ c.1 | inr c ↦ none_some c.0 (sym (none c.1) ∙ c.2) ]

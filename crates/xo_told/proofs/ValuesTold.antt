@@ -42,10 +42,12 @@ module _ (room : ℕ) where
     pub shows : lowered d ≡ array (elements (shown room) xs)
 
   -- what a nested value shows
-  nested_fields : (d : Data) (value : List ℕ) → ShowsValue (suc room) Object d value → (xs : List Item) × ShowsFields d xs × (value ≡ spell xs)
+  nested_fields : (d : Data) (value : List ℕ) → ShowsValue (suc room) Object d value →
+      (xs : List Item) × ShowsFields d xs × (value ≡ spell xs)
   nested_fields d value s =
       let xs : List Item = s.fits.0 in
-      let all : ListFits (IsValue room) false 0 xs × (value ≡ spell xs) = listed (IsValue room) false 0 xs value s.fits.1 in (
+      let all : ListFits (IsValue room) false 0 xs × (value ≡ spell xs) =
+      listed (IsValue room) false 0 xs value s.fits.1 in (
         xs,
         record {
           fits = all.0;
@@ -55,10 +57,12 @@ module _ (room : ℕ) where
         all.1,
       )
 
-  nested_elements : (d : Data) (value : List ℕ) → ShowsValue (suc room) Array d value → (xs : List Item) × ShowsElements d xs × (value ≡ spell xs)
+  nested_elements : (d : Data) (value : List ℕ) → ShowsValue (suc room) Array d value →
+      (xs : List Item) × ShowsElements d xs × (value ≡ spell xs)
   nested_elements d value s =
       let xs : List Item = s.fits.0 in
-      let all : ListFits (IsValue room) true 0 xs × (value ≡ spell xs) = listed (IsValue room) true 0 xs value s.fits.1 in (
+      let all : ListFits (IsValue room) true 0 xs × (value ≡ spell xs) =
+      listed (IsValue room) true 0 xs value s.fits.1 in (
         xs,
         record {
           fits = all.0;
@@ -89,18 +93,29 @@ module _ (room : ℕ) where
   -- one value shows one list
   one_fields : (d : Data) (xs ys : List Item) → ShowsFields d xs → ShowsFields d ys → xs ≡ ys
   one_fields d xs ys s u =
-      let alike : members (shown room) xs ≡ members (shown room) ys = same_members (members (shown room) xs) (members (shown room) ys) (sym s.shows ∙ u.shows) in
-      one_list (shown room) (IsValue room) (one_value room) 0 xs ys s.fits u.fits s.bytes u.bytes (λ f is above. ap (get_member (key f)) alike)
+      let alike : members (shown room) xs ≡ members (shown room) ys =
+      same_members (members (shown room) xs) (members (shown room) ys) (sym s.shows ∙ u.shows) in
+      one_list (shown room) (IsValue room) (one_value room) 0 xs ys s.fits u.fits s.bytes u.bytes
+      (λ f is above. ap (get_member (key f)) alike)
     where
       same_members : (ms ns : Members) → object ms ≡ object ns → ms ≡ ns
       same_members ms ns e = cc e
 
-  pub fields_apart : Apart room → (d : Data) (xs : List Item) (fault : JsonFault) → ShowsFields d xs → ObjectFails (ValueFails room) (ShowsValue room) d fault → ⊥
-  fields_apart apart (object ms) xs fault s fails = members_apart room apart ms xs fault (record { fits = s.fits; bytes = s.bytes; shows = let h : object (lowered_members ms) ≡ object (members (shown room) xs) = s.shows in cc h }) fails
+  pub fields_apart : Apart room → (d : Data) (xs : List Item) (fault : JsonFault) → ShowsFields d xs →
+      ObjectFails (ValueFails room) (ShowsValue room) d fault → ⊥
+  fields_apart apart (object ms) xs fault s fails =
+      members_apart room apart ms xs fault (record {
+        fits = s.fits;
+        bytes = s.bytes;
+        shows = let h : object (lowered_members ms) ≡ object (members (shown room) xs) = s.shows in cc h;
+      }) fails
   fields_apart apart d xs fault s fails = let h = s.shows in cc h
 
-  elements_apart : Apart room → (d : Data) (xs : List Item) (fault : JsonFault) → ShowsElements d xs → ArrayFails (ValueFails room) (ShowsValue room) d fault → ⊥
-  elements_apart apart (array ds) xs fault s fails = items_apart room apart ds 0 xs fault s.fits s.bytes (let h : array (lowered_items ds) ≡ array (elements (shown room) xs) = s.shows in cc h) fails
+  elements_apart : Apart room → (d : Data) (xs : List Item) (fault : JsonFault) → ShowsElements d xs →
+      ArrayFails (ValueFails room) (ShowsValue room) d fault → ⊥
+  elements_apart apart (array ds) xs fault s fails =
+      items_apart room apart ds 0 xs fault s.fits s.bytes
+      (let h : array (lowered_items ds) ≡ array (elements (shown room) xs) = s.shows in cc h) fails
   elements_apart apart d xs fault s fails = let h = s.shows in cc h
 
 pub apart : (room : ℕ) → Apart room
@@ -110,27 +125,37 @@ apart room Blob d value fault s fails = fails.1 value s
 apart room Account d value fault s fails = fails.1 value s
 apart zero Object d value fault s fails = s.fits
 apart zero Array d value fault s fails = s.fits
-apart (suc room) Object d value fault s fails = let (xs, shows, is) = nested_fields room d value s in fields_apart room (apart room) d xs fault shows fails
-apart (suc room) Array d value fault s fails = let (xs, shows, is) = nested_elements room d value s in elements_apart room (apart room) d xs fault shows fails
+apart (suc room) Object d value fault s fails =
+    let (xs, shows, is) = nested_fields room d value s in fields_apart room (apart room) d xs fault shows fails
+apart (suc room) Array d value fault s fails =
+    let (xs, shows, is) = nested_elements room d value s in elements_apart room (apart room) d xs fault shows fails
 
 -- elements of one value are one list
 one_elements : (room : ℕ) (d : Data) (xs ys : List Item) → ShowsElements room d xs → ShowsElements room d ys → xs ≡ ys
 one_elements room d xs ys s u =
     let one : ShowsValue (suc room) Array d (spell xs) = elements_nested room d xs s in
     let other : ShowsValue (suc room) Array d (spell ys) = elements_nested room d ys u in
-    let same : spell xs ≡ spell ys = one_value (suc room) Array (spell xs) (spell ys) one.fits other.fits one.bytes other.bytes (sym one.shows ∙ other.shows) in
-    sym (elements_are room xs (spell xs) (spelled (IsValue room) true 0 xs s.fits)) ∙ ap (elements_in room) same ∙ elements_are room ys (spell ys) (spelled (IsValue room) true 0 ys u.fits)
+    let same : spell xs ≡ spell ys =
+    one_value (suc room) Array (spell xs) (spell ys) one.fits other.fits one.bytes other.bytes
+    (sym one.shows ∙ other.shows) in
+    sym (elements_are room xs (spell xs) (spelled (IsValue room) true 0 xs s.fits))
+    ∙ ap (elements_in room) same
+    ∙ elements_are room ys (spell ys) (spelled (IsValue room) true 0 ys u.fits)
 
 module _ (room : ℕ) (tell : Teller) (t : Tells room tell) where
   pub fields_sound : (d : Data) (xs : List Item) → IsOrdered d → fields_told tell d ≡ Ok xs → ShowsFields room d xs
-  fields_sound (object ms) xs o e = let s = members_sound room tell t ms xs o e in record { fits = s.fits; bytes = s.bytes; shows = ap object s.shows }
+  fields_sound (object ms) xs o e =
+      let s = members_sound room tell t ms xs o e in
+      record { fits = s.fits; bytes = s.bytes; shows = ap object s.shows }
   fields_sound d xs o e = err_ok xs BadValue e
 
-  pub fields_fail : (d : Data) (fault : JsonFault) → IsOrdered d → fields_told tell d ≡ Err fault → ObjectFails (ValueFails room) (ShowsValue room) d fault
+  pub fields_fail : (d : Data) (fault : JsonFault) → IsOrdered d → fields_told tell d ≡ Err fault →
+      ObjectFails (ValueFails room) (ShowsValue room) d fault
   fields_fail (object ms) fault o e = members_fail room tell t ms fault o e
   fields_fail d fault o e = sym (err_same (List Item) BadValue fault e)
 
-  pub fields_refuse : (d : Data) (fault : JsonFault) → IsOrdered d → ObjectFails (ValueFails room) (ShowsValue room) d fault → fields_told tell d ≡ Err fault
+  pub fields_refuse : (d : Data) (fault : JsonFault) → IsOrdered d →
+      ObjectFails (ValueFails room) (ShowsValue room) d fault → fields_told tell d ≡ Err fault
   fields_refuse (object ms) fault o fails = members_refuse room tell t ms fault o fails
   fields_refuse d fault o bad = λ i. Err (sym bad i)
 
@@ -142,14 +167,17 @@ module _ (room : ℕ) (tell : Teller) (t : Tells room tell) where
       at (Err fault) e = absurd (fields_apart room (apart room) d xs fault s (fields_fail d fault o e))
 
   elements_sound : (d : Data) (xs : List Item) → IsOrdered d → elements_told tell d ≡ Ok xs → ShowsElements room d xs
-  elements_sound (array ds) xs o e = let s = items_sound room tell t ds xs o e in record { fits = s.fits; bytes = s.bytes; shows = ap array s.shows }
+  elements_sound (array ds) xs o e =
+      let s = items_sound room tell t ds xs o e in record { fits = s.fits; bytes = s.bytes; shows = ap array s.shows }
   elements_sound d xs o e = err_ok xs BadValue e
 
-  elements_fail : (d : Data) (fault : JsonFault) → IsOrdered d → elements_told tell d ≡ Err fault → ArrayFails (ValueFails room) (ShowsValue room) d fault
+  elements_fail : (d : Data) (fault : JsonFault) → IsOrdered d → elements_told tell d ≡ Err fault →
+      ArrayFails (ValueFails room) (ShowsValue room) d fault
   elements_fail (array ds) fault o e = items_fail room tell t ds fault o e
   elements_fail d fault o e = sym (err_same (List Item) BadValue fault e)
 
-  elements_refuse : (d : Data) (fault : JsonFault) → IsOrdered d → ArrayFails (ValueFails room) (ShowsValue room) d fault → elements_told tell d ≡ Err fault
+  elements_refuse : (d : Data) (fault : JsonFault) → IsOrdered d →
+      ArrayFails (ValueFails room) (ShowsValue room) d fault → elements_told tell d ≡ Err fault
   elements_refuse (array ds) fault o fails = items_refuse room tell t ds fault o fails
   elements_refuse d fault o bad = λ i. Err (sym bad i)
 
@@ -202,7 +230,8 @@ module _ (room : ℕ) (d : Data) where
   plainly Object p = absurd p
   plainly Array p = absurd p
 
-  fails_plainly : (form : Form) (fault : JsonFault) → IsPlain form → IsNone room form d fault → ValueFails room form d fault
+  fails_plainly : (form : Form) (fault : JsonFault) → IsPlain form → IsNone room form d fault →
+      ValueFails room form d fault
   fails_plainly (Fixed size) fault p n = n
   fails_plainly Money fault p n = n
   fails_plainly Blob fault p n = n
@@ -210,7 +239,8 @@ module _ (room : ℕ) (d : Data) where
   fails_plainly Object fault p n = absurd p
   fails_plainly Array fault p n = absurd p
 
-  none_plainly : (form : Form) (fault : JsonFault) → IsPlain form → ValueFails room form d fault → IsNone room form d fault
+  none_plainly : (form : Form) (fault : JsonFault) → IsPlain form → ValueFails room form d fault →
+      IsNone room form d fault
   none_plainly (Fixed size) fault p n = n
   none_plainly Money fault p n = n
   none_plainly Blob fault p n = n
@@ -252,11 +282,14 @@ module _ (room : ℕ) (t : Tells room (value_told room)) where
   object_tells = record {
     sound = λ d value o e.
         let (xs, told, is) = map_ok spell (fields_told (value_told room) d) value e in
-        subst (ShowsValue (suc room) Object d) is (fields_nested room d xs (fields_sound room (value_told room) t d xs o told));
+        subst (ShowsValue (suc room) Object d) is
+        (fields_nested room d xs (fields_sound room (value_told room) t d xs o told));
     complete = λ d value o s.
         let (xs, shows, is) = nested_fields room d value s in
         ap (told_map spell) (fields_complete room (value_told room) t d xs o shows) ∙ (λ i. Ok (sym is i));
-    fails = λ d fault o e. fields_fail room (value_told room) t d fault o (map_err spell (fields_told (value_told room) d) fault e);
+    fails =
+        λ d fault o e.
+        fields_fail room (value_told room) t d fault o (map_err spell (fields_told (value_told room) d) fault e);
     refuses = λ d fault o fails. ap (told_map spell) (fields_refuse room (value_told room) t d fault o fails);
   }
 
@@ -264,11 +297,14 @@ module _ (room : ℕ) (t : Tells room (value_told room)) where
   array_tells = record {
     sound = λ d value o e.
         let (xs, told, is) = map_ok spell (elements_told (value_told room) d) value e in
-        subst (ShowsValue (suc room) Array d) is (elements_nested room d xs (elements_sound room (value_told room) t d xs o told));
+        subst (ShowsValue (suc room) Array d) is
+        (elements_nested room d xs (elements_sound room (value_told room) t d xs o told));
     complete = λ d value o s.
         let (xs, shows, is) = nested_elements room d value s in
         ap (told_map spell) (elements_complete room (value_told room) t d xs o shows) ∙ (λ i. Ok (sym is i));
-    fails = λ d fault o e. elements_fail room (value_told room) t d fault o (map_err spell (elements_told (value_told room) d) fault e);
+    fails =
+        λ d fault o e.
+        elements_fail room (value_told room) t d fault o (map_err spell (elements_told (value_told room) d) fault e);
     refuses = λ d fault o fails. ap (told_map spell) (elements_refuse room (value_told room) t d fault o fails);
   }
 

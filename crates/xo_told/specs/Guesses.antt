@@ -1,5 +1,6 @@
 -- Which field a key may name and which bytes a value may show, as functions: a guess is tested before it is taken.
-use Rattle.std.specs.Prelude.{ℕ, pos, ◌-◌, ◌==◌, ◌&&◌, nat_lt, nat_le, bytes_eq, Bool, true, false, List, [], ◌∷◌, length, drop, unwrap_or, if◌then◌else◌}
+use Rattle.std.specs.Prelude.{ℕ, pos, ◌-◌, ◌==◌, ◌&&◌, nat_lt, nat_le, bytes_eq, Bool, true, false, List, [], ◌∷◌}
+use Rattle.std.specs.Prelude.{length, drop, unwrap_or, if◌then◌else◌}
 use Rattle.std.specs.Int.{w64, to_be_bytes}
 use Rattle.std.specs.Str.Parse.{digits_value}
 use Rattle.hk_base.specs.Hexadecimal.{hex_bytes}

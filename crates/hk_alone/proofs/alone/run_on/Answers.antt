@@ -20,7 +20,8 @@ pub returns : goal.returns
 returns c = record {
   run =
       IfOk-weaker c.run.result _ _ (λ ended ends.
-      subst (λ h. (after : HostState) × IsRun hook_meaning c.args.checked.now.wasm is_hook 0 h ended.outcome ended.count after)
+      subst (λ h.
+      (after : HostState) × IsRun hook_meaning c.args.checked.now.wasm is_hook 0 h ended.outcome ended.count after)
       (c.new-host.ensures.api ∙ c.in_ok-api.ensures.begun
       ∙ begins c.args.setting.now c.args.place.now c.args.ledger.now c.new-overlay.result c.new-3.result c.new.result
       c.new-2.result c.new-overlay.ensures.empty c.new-3.ensures.empty c.new.ensures.empty c.new-2.ensures.empty)

@@ -9,8 +9,11 @@ use Rattle.hk_api.proofs.fee.transaction_of.Goals as goal
 
 pub returns-in-Ok : goal.returns-in-Ok
 returns-in-Ok c = record {
-  found = sym ((c.transactions_found.ensures.law c.args.emitted (items c.args.object.now) c.args.object.now.bytes c.in-Ok.transaction).1 c.in-Ok.ensures.ok);
-  code = code_fits (items c.args.object.now) c.args.object.now.bytes c.args.emitted c.in-Ok.transaction c.in-Ok.ensures.ok;
+  found =
+      sym ((c.transactions_found.ensures.law c.args.emitted (items c.args.object.now) c.args.object.now.bytes
+      c.in-Ok.transaction).1 c.in-Ok.ensures.ok);
+  code =
+      code_fits (items c.args.object.now) c.args.object.now.bytes c.args.emitted c.in-Ok.transaction c.in-Ok.ensures.ok;
 }
 
 pub returns-in-Err-Malformed : goal.returns-in-Err-Malformed

@@ -17,8 +17,10 @@ loop-next-init c =
 pub loop-next-smaller : goal.loop-next-smaller
 loop-next-smaller c =
     let m = with_writes c.args.ledger.now.entries c.args.overlay.now in
-    let fewer : length (on_from (entries m) (option_map deref_pair c.loop-next.next)) ≡ suc (length (on_from (entries m) (option_map deref_pair c.least_after-next.result))) =
-    ap length (on_from-next m deref_pair c.loop-next.next (c.in-Some.key, c.in-Some.entry) (option_map deref_pair c.least_after-next.result) c.in-Some.is c.least_after-next.ensures.least) in
+    let fewer : length (on_from (entries m) (option_map deref_pair c.loop-next.next))
+    ≡ suc (length (on_from (entries m) (option_map deref_pair c.least_after-next.result))) =
+    ap length (on_from-next m deref_pair c.loop-next.next (c.in-Some.key, c.in-Some.entry)
+    (option_map deref_pair c.least_after-next.result) c.in-Some.is c.least_after-next.ensures.least) in
     omega (arith, fewer)
 
 pub loop-next-preserved : goal.loop-next-preserved
@@ -29,7 +31,10 @@ loop-next-preserved c =
     let key = c.in-Some.key.now in
     let entry = c.in-Some.entry.now in
     let rest = on_from (entries m) (option_map deref_pair c.least_after-next.result) in
-    sym (ap (λ es. find (λ e. has_index index e.0) (run (is_of start) es)) (on_from-next m deref_pair c.loop-next.next (c.in-Some.key, c.in-Some.entry) (option_map deref_pair c.least_after-next.result) c.in-Some.is c.least_after-next.ensures.least)
+    sym (ap (λ es. find (λ e. has_index index e.0) (run (is_of start) es)) (on_from-next m deref_pair c.loop-next.next
+    (c.in-Some.key, c.in-Some.entry) (option_map deref_pair c.least_after-next.result) c.in-Some.is
+    c.least_after-next.ensures.least)
     ∙ ap (find (λ e. has_index index e.0)) (run_one (is_of start) key entry rest (sym c.if-not-is_of.ensures))
-    ∙ ap (λ b. cond b (Some (key, entry)) (find (λ e. has_index index e.0) (run (is_of start) rest))) (sym c.if-has_index.ensures))
+    ∙ ap (λ b. cond b (Some (key, entry)) (find (λ e. has_index index e.0) (run (is_of start) rest)))
+    (sym c.if-has_index.ensures))
     ∙ c.loop-next.invariant

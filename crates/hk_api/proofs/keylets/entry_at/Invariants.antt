@@ -16,4 +16,5 @@ invariant-loop-next l =
     ≡ entry_at (with_writes l.ledger.entries l.overlay) l.first l.index
 
 abbrev pub decreases-loop-next : goal.decreases-loop-next
-decreases-loop-next l = length (on_from (entries (with_writes l.ledger.entries l.overlay)) (option_map deref_pair l.next))
+decreases-loop-next l =
+    length (on_from (entries (with_writes l.ledger.entries l.overlay)) (option_map deref_pair l.next))

@@ -5,11 +5,14 @@ use Rattle.hk_api.proofs.Putting.{fits}
 use Rattle.hk_api.proofs.shown.account_object.Goals as goal
 
 pub put-requires-clause-fit : goal.put-requires-clause-fit
-put-requires-clause-fit c = fits (record { kind = 1; code = 1 }) (Fixed 2) (0 ∷ 97 ∷ []) (omega arith) (omega arith) (omega arith) (omega arith) refl refl
+put-requires-clause-fit c =
+    fits (record { kind = 1; code = 1 }) (Fixed 2) (0 ∷ 97 ∷ []) (omega arith) (omega arith) (omega arith) (omega arith)
+    refl refl
 
 pub put-requires-2-clause-fit : goal.put-requires-2-clause-fit
 put-requires-2-clause-fit c =
-    fits (record { kind = 2; code = 2 }) (Fixed 4) (0 ∷ 0 ∷ 0 ∷ 0 ∷ []) (omega arith) (omega arith) (omega arith) (omega arith) refl refl
+    fits (record { kind = 2; code = 2 }) (Fixed 4) (0 ∷ 0 ∷ 0 ∷ 0 ∷ []) (omega arith) (omega arith) (omega arith)
+    (omega arith) refl refl
 
 pub put-requires-5-clause-fit : goal.put-requires-5-clause-fit
 put-requires-5-clause-fit c =

@@ -4,7 +4,8 @@ use Rattle.hk_api_pure.proofs.editing.erased.Goals as goal
 
 pub returns-in-Ok : goal.returns-in-Ok
 returns-in-Ok c =
-    let short : length c.args.bytes.now ≤ 16384 = not_long 16384 _ (λ long. absurd cc (c.in-Ok.ensures.too_big.1 long)) in
+    let short : length c.args.bytes.now ≤ 16384 =
+    not_long 16384 _ (λ long. absurd cc (c.in-Ok.ensures.too_big.1 long)) in
     erased_is c.one_spelling.ensures.law c.args.bytes.now c.args.field _ short c.in-Ok.ensures.erased
 
 pub returns-in-Err-ParseError : goal.returns-in-Err-ParseError

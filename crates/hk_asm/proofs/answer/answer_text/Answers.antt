@@ -9,6 +9,7 @@ returns c =
     let same = ap (λ lines. told true (meaning lines)) c.whole_lines.ensures.lines
     ∙ sym (told_just c.args.text.now (omega (arith, c.if-text-lt-LONGEST_TEXT.false)) c.requires.size) in
     record {
-      answer = subst (λ given. IfOk c.answer_lines-2.result (λ answer. Tells given answer.text.items answer.status)) same
+      answer =
+          subst (λ given. IfOk c.answer_lines-2.result (λ answer. Tells given answer.text.items answer.status)) same
           c.answer_lines-2.ensures.answer;
     }

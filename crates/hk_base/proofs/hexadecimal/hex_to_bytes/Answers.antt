@@ -10,7 +10,8 @@ returns-in-Ok-clause-bytes c = sym (ap value_of c.in-Ok.ensures.ok) ∙ decode_o
 -- bytes were found, so nothing is wrong with the text
 pub returns-in-Ok-clause-refused : goal.returns-in-Ok-clause-refused
 returns-in-Ok-clause-refused c =
-    let found : Some c.in-Ok.bytes.items ≡ hex_bytes c.args.text.now = sym (ap value_of c.in-Ok.ensures.ok) ∙ decode_of-is c.args.text.now in
+    let found : Some c.in-Ok.bytes.items ≡ hex_bytes c.args.text.now =
+    sym (ap value_of c.in-Ok.ensures.ok) ∙ decode_of-is c.args.text.now in
     (λ h. cc h, λ bad. let none = shown_none c.args.text.now bad in cc)
 
 -- an error but that of memory says that the text has no bytes

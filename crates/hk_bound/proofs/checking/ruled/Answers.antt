@@ -5,4 +5,5 @@ use Rattle.hk_bound.proofs.checking.ruled.Goals as goal
 
 pub returns-in-Err-clause-fault : goal.returns-in-Err-clause-fault
 returns-in-Err-clause-fault c =
-    subst (BreaksRules c.args.module.now) (sym c.fault_of.ensures.fault) (breaks_by c.args.module.now c.in-Err.found c.in-Err.ensures.first)
+    subst (BreaksRules c.args.module.now) (sym c.fault_of.ensures.fault)
+    (breaks_by c.args.module.now c.in-Err.found c.in-Err.ensures.first)

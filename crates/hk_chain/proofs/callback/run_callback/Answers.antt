@@ -28,7 +28,8 @@ returns-in-Ran-clause-stays c = stay_further _ _ _ c.loop-position.invariant.sta
 pub returns-in-Ran-clause-callback : goal.returns-in-Ran-clause-callback
 returns-in-Ran-clause-callback c =
     let m = c.args.ledger.now.entries in
-    let play = callback_at c.args.setting.now c.args.ledger.now.next m c.args.account.now c.args.hash.now c.args.argument in
+    let play =
+    callback_at c.args.setting.now c.args.ledger.now.next m c.args.account.now c.args.hash.now c.args.argument in
     let s = passing m c.loop-position.work in
     IfOk-weaker c.called_end.result _ _ (λ end means.
     ends_here m c.args.account.now play c.loop-position.position (10 - c.loop-position.position)
@@ -40,7 +41,8 @@ returns-in-Ran-clause-callback c =
 pub loop-position-preserved : goal.loop-position-preserved
 loop-position-preserved c =
     let m = c.args.ledger.now.entries in
-    let play = callback_at c.args.setting.now c.args.ledger.now.next m c.args.account.now c.args.hash.now c.args.argument in
+    let play =
+    callback_at c.args.setting.now c.args.ledger.now.next m c.args.account.now c.args.hash.now c.args.argument in
     let s = passing m c.loop-position.work in
     record {
       held = c.call_back.ensures.held;
@@ -56,7 +58,8 @@ loop-position-preserved c =
 pub returns-clause-callback : goal.returns-clause-callback
 returns-clause-callback c =
     let m = c.args.ledger.now.entries in
-    let play = callback_at c.args.setting.now c.args.ledger.now.next m c.args.account.now c.args.hash.now c.args.argument in
+    let play =
+    callback_at c.args.setting.now c.args.ledger.now.next m c.args.account.now c.args.hash.now c.args.argument in
     subst (λ e. EndMeans m e (found.Kept c.loop-position.work.overlay c.loop-position.work.emissions c.new.result))
     (over c.args.account.now play c.loop-position.position (10 - c.loop-position.position)
     (passing m c.loop-position.work) _ (omega (arith, c.loop-position-test.false)) c.loop-position.invariant.leads)

@@ -79,7 +79,8 @@ pub returns-clause-chain : goal.returns-clause-chain
 returns-clause-chain c =
     let m = c.args.ledger.now.entries in
     let play = play_at c.args.setting.now c.args.ledger.now.next m c.args.account.now in
-    subst (λ e. EndMeans m e (found.Kept c.loop-position.work.overlay c.loop-position.work.emissions c.loop-position.records))
+    subst
+    (λ e. EndMeans m e (found.Kept c.loop-position.work.overlay c.loop-position.work.emissions c.loop-position.records))
     (over c.args.account.now play c.loop-position.position (10 - c.loop-position.position)
     (passing m c.loop-position.work) c.loop-position.records _ (omega (arith, c.loop-position-test.false))
     c.loop-position.invariant.leads) (refl, refl)

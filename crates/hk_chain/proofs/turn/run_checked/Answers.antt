@@ -17,7 +17,11 @@ returns-clause-played c = λ code holds.
     c.in_ok-ended.ended.outcome c.in_ok-ended.ended.count c.run_export.new.host)
     (c.new-host.ensures.api ∙ c.in_ok-api.ensures.begun) c.in_ok-ended.ensures.ends)
     c.args.bound c.calls_lead.ensures.law
-    (record { overlay = c.finish-overlay.result.0; emissions = c.finish-overlay.result.1; chain = c.finish-overlay.result.2 })
+    (record {
+      overlay = c.finish-overlay.result.0;
+      emissions = c.finish-overlay.result.1;
+      chain = c.finish-overlay.result.2;
+    })
     c.finish-overlay.ensures.draft c.finish-overlay.ensures.chain
 
 pub returns-clause-fits : goal.returns-clause-fits
@@ -30,5 +34,9 @@ returns-clause-fits c =
     c.in_ok-ended.ended.outcome c.in_ok-ended.ended.count c.run_export.new.host)
     (c.new-host.ensures.api ∙ c.in_ok-api.ensures.begun) c.in_ok-ended.ensures.ends)
     c.calls_lead.ensures.law (with_writes c.args.ledger.now.entries c.args.work.overlay)
-    (record { overlay = c.finish-overlay.result.0; emissions = c.finish-overlay.result.1; chain = c.finish-overlay.result.2 })
+    (record {
+      overlay = c.finish-overlay.result.0;
+      emissions = c.finish-overlay.result.1;
+      chain = c.finish-overlay.result.2;
+    })
     c.requires.fits c.finish-overlay.ensures.reserves

@@ -29,7 +29,11 @@ run_checked-requires-clause-ready c =
     (record {
       bound_hook = c.in-Some-Definition.bound_hook;
       bound_cbak = c.in-Some-Definition.bound_cbak;
-      there = there ∙ ap (λ k. Some (entry.Definition k c.in-Some-Definition.version c.in-Some-Definition.bound_hook c.in-Some-Definition.bound_cbak)) (sym c.as_slice.ensures.items);
+      there =
+          there
+          ∙ ap (λ k.
+          Some (entry.Definition k c.in-Some-Definition.version c.in-Some-Definition.bound_hook
+          c.in-Some-Definition.bound_cbak)) (sym c.as_slice.ensures.items);
     }) c.requires.held)
     there c.of-checked.ensures.found (sym c.stored_bound.ensures.bound ∙ c.in-Some.is))
 
@@ -40,12 +44,20 @@ returns-in_ok-fill-in-Some-clause-played c =
     (record {
       bound_hook = c.in-Some-Definition.bound_hook;
       bound_cbak = c.in-Some-Definition.bound_cbak;
-      there = there ∙ ap (λ k. Some (entry.Definition k c.in-Some-Definition.version c.in-Some-Definition.bound_hook c.in-Some-Definition.bound_cbak)) (sym c.as_slice.ensures.items);
+      there =
+          there
+          ∙ ap (λ k.
+          Some (entry.Definition k c.in-Some-Definition.version c.in-Some-Definition.bound_hook
+          c.in-Some-Definition.bound_cbak)) (sym c.as_slice.ensures.items);
     }) c.requires.held in
     let holds : Holds c.in-Some-Definition.version c.in-Some-Definition.code c.of-checked.result.now =
     holds_at c.args.ledger.now.entries c.fill.new.self c.args.turn.now.hash c.in-Some-Definition.code
     c.in-Some-Definition.version c.of-checked.result.now are
-    (record { bound_hook = c.in-Some-Definition.bound_hook; bound_cbak = c.in-Some-Definition.bound_cbak; there = there })
+    (record {
+      bound_hook = c.in-Some-Definition.bound_hook;
+      bound_cbak = c.in-Some-Definition.bound_cbak;
+      there = there;
+    })
     c.of-checked.ensures.found in
     IfOk-weaker c.run_checked.result _ _ (λ answer p.
     subst (λ q. IsPlay c.args.ledger.now.entries (passing c.args.ledger.now.entries c.args.work) q answer)

@@ -34,7 +34,8 @@ returns-in_ok-after-in-Some c = record {
       c.args.terms.grants.now c.args.terms.replace c.if-is_occupied.ensures.occupied
       (checked c.in-Some.found.hash c.in-Some.found.bound_hook c.in-Some.found.bound_cbak)
       (sym (ap (option_map (λ (f : Found). checked f.hash f.bound_hook f.bound_cbak)) c.in-Some.is)
-      ∙ c.in_ok-found_in.ensures.found ∙ ap (checked_in c.args.version) c.as_slice.ensures.items) c.in_ok-after-in-Some.after
+      ∙ c.in_ok-found_in.ensures.found
+      ∙ ap (checked_in c.args.version) c.as_slice.ensures.items) c.in_ok-after-in-Some.after
       (c.in_ok-after-in-Some.ensures.put es);
 }
 

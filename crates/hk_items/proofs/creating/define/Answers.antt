@@ -8,14 +8,16 @@ pub returns-then-has : goal.returns-then-has
 returns-then-has c = record {
   defined =
       λ es. defined_there c.args.ledger.now.entries c.args.overlay es c.args.version c.args.code.now
-      (checked c.args.found.hash c.args.found.bound_hook c.args.found.bound_cbak) c.args.found.hash refl c.if-has.ensures.has;
+      (checked c.args.found.hash c.args.found.bound_hook c.args.found.bound_cbak) c.args.found.hash refl
+      c.if-has.ensures.has;
 }
 
 pub returns : goal.returns
 returns c = record {
   defined =
       λ es. defined_new c.args.ledger.now.entries c.args.overlay es c.args.version c.args.code.now
-      (checked c.args.found.hash c.args.found.bound_hook c.args.found.bound_cbak) c.args.found.hash refl c.if-has.ensures.has
+      (checked c.args.found.hash c.args.found.bound_hook c.args.found.bound_cbak) c.args.found.hash refl
+      c.if-has.ensures.has
       c.put.new.self _ c.in_ok-put.ensures.ok
       (λ i. entry.Definition (c.in_ok-own.ensures.same i) c.args.version c.args.found.bound_hook
       c.args.found.bound_cbak);

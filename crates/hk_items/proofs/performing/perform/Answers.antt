@@ -9,6 +9,7 @@ pub returns-in_ok-after-in-Delete : goal.returns-in_ok-after-in-Delete
 returns-in_ok-after-in-Delete c = record {
   end = λ es.
       subst (λ i. Means c.args.ledger.now.entries es (Kept c.in_ok-after-in-Delete.after)
-      (item_end plain c.args.place.owner c.args.place.position i (draft_of c.args.ledger.now.entries c.args.overlay es)))
+      (item_end plain c.args.place.owner c.args.place.position i
+      (draft_of c.args.ledger.now.entries c.args.overlay es)))
       (sym c.in-Delete.is) (c.in_ok-after-in-Delete.ensures.cut c.args.ledger.now.entries es);
 }

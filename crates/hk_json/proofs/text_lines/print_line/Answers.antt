@@ -10,6 +10,8 @@ returns c =
     let object = c.args.object.now in
     let spelled = (listed (IsValue 10) false 0 (items object) object.bytes c.bytes.ensures.read.object).1 in
     record {
-      line = subst (λ bytes. OnOk c.push_line.result (c.push_line.new.out.items ≡ c.args.out.now.items ++ bytes_line bytes))
+      line =
+          subst
+          (λ bytes. OnOk c.push_line.result (c.push_line.new.out.items ≡ c.args.out.now.items ++ bytes_line bytes))
           (c.bytes.ensures.bytes ∙ spelled) c.push_line.ensures.line;
     }

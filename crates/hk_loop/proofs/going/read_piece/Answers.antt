@@ -6,7 +6,10 @@ use Rattle.hk_loop.proofs.going.read_piece.Goals as goal
 pub returns-then-count-eq0-clause-stops : goal.returns-then-count-eq0-clause-stops
 returns-then-count-eq0-clause-stops g c = record {
   taken = [];
-  consumed = subst (λ n. Consumes (g.S.Source.left c.args.source.now) (g.S.Source.left c.read_some.new.source) (take n c.read_some.new.buffer))
+  consumed =
+      subst (λ n.
+      Consumes (g.S.Source.left c.args.source.now) (g.S.Source.left c.read_some.new.source)
+      (take n c.read_some.new.buffer))
       c.if-count-eq0.true c.in-Ok.ensures.moved;
   most = omega arith;
   few = omega arith;

@@ -1,6 +1,7 @@
 use Rattle.std.proofs.Common.{arith}
 use Rattle.hk_loop.proofs.Invariant.{going_on}
-use Rattle.hk_loop.proofs.Exits.{stopped_answers, stopped_kept, stopped_leaves, limit_answers, never_done, limit_leaves, exact_status, cause_since, sink_cause_since}
+use Rattle.hk_loop.proofs.Exits.{stopped_answers, stopped_kept, stopped_leaves, limit_answers, never_done, limit_leaves}
+use Rattle.hk_loop.proofs.Exits.{exact_status, cause_since, sink_cause_since}
 use Rattle.hk_loop.proofs.through.go_through.Goals as goal
 
 pub loop-room-preserved : goal.loop-room-preserved
@@ -41,7 +42,8 @@ returns-clause-answered g c =
 
 pub returns-clause-cause : goal.returns-clause-cause
 returns-clause-cause g c =
-    sink_cause_since _ _ _ _ _ _ c.loop-room.invariant.source_count c.loop-room.invariant.sink_count c.write_answer.ensures.cause
+    sink_cause_since _ _ _ _ _ _ c.loop-room.invariant.source_count c.loop-room.invariant.sink_count
+    c.write_answer.ensures.cause
 
 pub returns-clause-exact : goal.returns-clause-exact
 returns-clause-exact g c = λ no_read no_write bytes known.
@@ -50,9 +52,11 @@ returns-clause-exact g c = λ no_read no_write bytes known.
     (λ fault. no_read (cause.read_fault fault)) (λ fault. no_write (cause.write_fault fault))
 
 pub returns-clause-kept : goal.returns-clause-kept
-returns-clause-kept g c = λ done bytes known. absurd (never_done c.write_answer.result c.write_answer.ensures.whole done)
+returns-clause-kept g c =
+    λ done bytes known. absurd (never_done c.write_answer.result c.write_answer.ensures.whole done)
 
 pub returns-clause-leaves : goal.returns-clause-leaves
 returns-clause-leaves g c =
     limit_leaves _ _ _ _ _ _ _ _ _ _ _ c.loop-room.invariant.going _ _ (omega (arith, c.loop-room-test.false))
-    c.too_long_line.ensures.text c.write_answer.ensures.whole c.write_answer.ensures.front c.write_answer.ensures.cause.no_read_fault
+    c.too_long_line.ensures.text c.write_answer.ensures.whole c.write_answer.ensures.front
+    c.write_answer.ensures.cause.no_read_fault

@@ -5,7 +5,8 @@ use Rattle.hk_loop.proofs.writing.write_all.Given as goal
 -- a front of the text was written, and the rest is left
 abbrev pub invariant-loop-rest : goal.invariant-loop-rest
 invariant-loop-rest g l = record {
-  wrote : (front : List ℕ) × (l.text ≡ front ++ l.rest) × Appends (g.K.Sink.written l.initial.sink) (g.K.Sink.written l.sink) front;
+  wrote : (front : List ℕ) × (l.text ≡ front ++ l.rest)
+      × Appends (g.K.Sink.written l.initial.sink) (g.K.Sink.written l.sink) front;
   later : g.K.Sink.faults l.initial.sink ≤ g.K.Sink.faults l.sink;
 }
 

@@ -15,7 +15,9 @@ returns c =
     record {
       charged =
           ap (λ x. draft_of m x []) c.in_ok-put_holding.ensures.ok
-          ∙ ap (λ next. draft_of m (written w (key.Account t.account) (Some (entry.Account left next))) []) c.next_sequence.ensures.next
-          ∙ charged c.args.ledger.now c.args.origin t w c.in-Some.holding (c.in_ok-overlay.ensures.began c.args.ledger.now)
+          ∙ ap (λ next. draft_of m (written w (key.Account t.account) (Some (entry.Account left next))) [])
+          c.next_sequence.ensures.next
+          ∙ charged c.args.ledger.now c.args.origin t w c.in-Some.holding
+          (c.in_ok-overlay.ensures.began c.args.ledger.now)
           (sym c.in-Some.is ∙ c.holding.ensures.holding);
     }

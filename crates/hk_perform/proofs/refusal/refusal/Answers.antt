@@ -13,7 +13,8 @@ pub returns-in-None : goal.returns-in-None
 returns-in-None c = record {
   rows = λ rules.
       well_signed rules c.args.ledger.now c.args.origin c.args.transaction.now
-      (sym c.has_bad_signature.ensures.bad ∙ c.if-has_bad_signature.false) _ (sym c.holding.ensures.holding ∙ c.in-None.is);
+      (sym c.has_bad_signature.ensures.bad ∙ c.if-has_bad_signature.false) _
+      (sym c.holding.ensures.holding ∙ c.in-None.is);
 }
 
 pub returns-in-Some : goal.returns-in-Some
@@ -21,5 +22,6 @@ returns-in-Some c = record {
   rows = λ rules.
       c.account_refusal.ensures.rows
       ∙ well_signed rules c.args.ledger.now c.args.origin c.args.transaction.now
-      (sym c.has_bad_signature.ensures.bad ∙ c.if-has_bad_signature.false) _ (sym c.holding.ensures.holding ∙ c.in-Some.is);
+      (sym c.has_bad_signature.ensures.bad ∙ c.if-has_bad_signature.false) _
+      (sym c.holding.ensures.holding ∙ c.in-Some.is);
 }

@@ -4,7 +4,8 @@ use Rattle.hk_perform.proofs.sides.joined.Goals as goal
 
 pub loop-line-init : goal.loop-line-init
 loop-line-init c =
-    ap (λ lines. c.args.earlier ++ lines) (c.into_iter-line-iterator.ensures.into_iter_gives.0 ∙ c.into_vec-line-items.ensures.items)
+    ap (λ lines. c.args.earlier ++ lines)
+    (c.into_iter-line-iterator.ensures.into_iter_gives.0 ∙ c.into_vec-line-items.ensures.items)
 
 pub loop-line-preserved : goal.loop-line-preserved
 loop-line-preserved c =
@@ -20,6 +21,7 @@ returns c =
     record {
       joined =
           sym (append-nil c.loop-line.all)
-          ∙ sym (ap (λ lines. c.loop-line.all ++ lines) (nil_from_length c.loop-line.line-iterator.rest.items (omega (arith, none, ok))))
+          ∙ sym (ap (λ lines. c.loop-line.all ++ lines)
+          (nil_from_length c.loop-line.line-iterator.rest.items (omega (arith, none, ok))))
           ∙ c.loop-line.invariant;
     }

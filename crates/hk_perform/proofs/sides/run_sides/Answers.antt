@@ -12,6 +12,7 @@ run_other-requires-clause-covered c =
     let setting = c.args.setting.now in
     let account = setting.transaction.account in
     let d = draft_of ledger.entries c.args.overlay c.new-emissions.result in
-    chain_covered c.chains_fit.ensures.law (c.engines_measured.ensures.law native) ledger setting account d c.in-Kept.overlay c.in-Kept.emissions c.in-Kept.records
+    chain_covered c.chains_fit.ensures.law (c.engines_measured.ensures.law native) ledger setting account d
+    c.in-Kept.overlay c.in-Kept.emissions c.in-Kept.records
     c.requires.covered
     (subst (EndMeans ledger.entries (chain_by ledger setting account d)) c.in-Kept.is c.in_ok-records.ensures.chain)

@@ -20,7 +20,9 @@ pub refusal-requires : goal.refusal-requires
 refusal-requires g c =
     let t = c.args.setting.now.transaction in
     let r = c.requires.ready.read in
-    let small = c.stores_bounds.ensures.needed c.args.ledger.now.entries r.fields r.emitted t c.requires.stored r.object r.is r.short in
+    let small =
+    c.stores_bounds.ensures.needed c.args.ledger.now.entries r.fields r.emitted t c.requires.stored r.object r.is
+    r.short in
     record { fits = omega (arith, small) }
 
 pub returns-in-Some-clause-performed : goal.returns-in-Some-clause-performed
@@ -29,12 +31,14 @@ returns-in-Some-clause-performed g c =
     subst (λ p. IfOk c.refused.result (IsPerformed ledger.entries p))
     (sym (refused_is g.T.Transactor.rules ledger c.args.origin c.args.setting.now c.requires.ready.header c.in-Some.name
     (sym (c.refusal.ensures.rows g.T.Transactor.rules) ∙ c.in-Some.is)))
-    (for_this ledger (λ any. refused (found_by any c.args.origin).entries c.in-Some.name) c.refused.result c.refused.ensures.refused)
+    (for_this ledger (λ any. refused (found_by any c.args.origin).entries c.in-Some.name) c.refused.result
+    c.refused.ensures.refused)
 
 pub charge-requires : goal.charge-requires
 charge-requires g c = record {
   pays =
-      can_pay g.T.Transactor.rules c.args.ledger.now c.args.origin c.args.setting.now.transaction c.requires.ready.read.sequence
+      can_pay g.T.Transactor.rules c.args.ledger.now c.args.origin c.args.setting.now.transaction
+      c.requires.ready.read.sequence
       (sym (c.refusal.ensures.rows g.T.Transactor.rules) ∙ c.in_default.is);
 }
 
@@ -57,7 +61,8 @@ run_sides-requires-clause-covered g c =
 pub failed-requires : goal.failed-requires
 failed-requires g c = record {
   pays =
-      can_pay g.T.Transactor.rules c.args.ledger.now c.args.origin c.args.setting.now.transaction c.requires.ready.read.sequence
+      can_pay g.T.Transactor.rules c.args.ledger.now c.args.origin c.args.setting.now.transaction
+      c.requires.ready.read.sequence
       (sym (c.refusal.ensures.rows g.T.Transactor.rules) ∙ c.in_default.is);
 }
 
@@ -75,7 +80,8 @@ act-requires-clause-covered g c =
     c.in-Kept.overlay c.in-Kept.emissions c.in-Kept.records
     (on_covered ledger.entries base c.in_ok-overlay.overlay [] c.in_ok-overlay.ensures.charged
     (paid_covered ledger c.args.origin t (ready_covered ledger setting c.requires.ready) pays))
-    (subst (EndMeans ledger.entries (chains (chain_by ledger setting) (sides t) d)) c.in-Kept.is c.in_ok-records.ensures.chains)
+    (subst (EndMeans ledger.entries (chains (chain_by ledger setting) (sides t) d)) c.in-Kept.is
+    c.in_ok-records.ensures.chains)
 
 pub act-requires-clause-sender : goal.act-requires-clause-sender
 act-requires-clause-sender g c =
@@ -91,12 +97,14 @@ act-requires-clause-sender g c =
     c.in-Kept.overlay c.in-Kept.emissions c.in-Kept.records t.account
     (on_sender ledger.entries base c.in_ok-overlay.overlay [] t.account c.in_ok-overlay.ensures.charged
     (paid_sender ledger c.args.origin t pays))
-    (subst (EndMeans ledger.entries (chains (chain_by ledger setting) (sides t) d)) c.in-Kept.is c.in_ok-records.ensures.chains)
+    (subst (EndMeans ledger.entries (chains (chain_by ledger setting) (sides t) d)) c.in-Kept.is
+    c.in_ok-records.ensures.chains)
 
 pub failed-requires-in-Failed : goal.failed-requires-in-Failed
 failed-requires-in-Failed g c = record {
   pays =
-      can_pay g.T.Transactor.rules c.args.ledger.now c.args.origin c.args.setting.now.transaction c.requires.ready.read.sequence
+      can_pay g.T.Transactor.rules c.args.ledger.now c.args.origin c.args.setting.now.transaction
+      c.requires.ready.read.sequence
       (sym (c.refusal.ensures.rows g.T.Transactor.rules) ∙ c.in_default.is);
 }
 
@@ -108,7 +116,8 @@ returns-in-Rejected-clause-performed g c =
     subst (λ p. IfOk c.failed.result (IsPerformed ledger.entries p))
     (sym (rejected_so g.T.Transactor.rules ledger c.args.origin setting c.requires.ready.header
     (sym (c.refusal.ensures.rows g.T.Transactor.rules) ∙ c.in_default.is) c.in-Rejected.records
-    (subst (λ d. EndMeans ledger.entries (chain d) (found.Rejected c.in-Rejected.records)) c.in_ok-overlay.ensures.charged
+    (subst (λ d. EndMeans ledger.entries (chain d) (found.Rejected c.in-Rejected.records))
+    c.in_ok-overlay.ensures.charged
     (subst (EndMeans ledger.entries (chain (draft_of ledger.entries c.in_ok-overlay.overlay []))) c.in-Rejected.is
     c.in_ok-records.ensures.chains))))
     c.failed.ensures.failed
@@ -128,7 +137,8 @@ returns-in-Failed-clause-performed g c =
     (subst (EndMeans ledger.entries (chain (draft_of ledger.entries c.in_ok-overlay.overlay []))) c.in-Kept.is
     c.in_ok-records.ensures.chains))
     c.in-Failed.name
-    (subst (λ done. Means ledger.entries es done (acts e ledger.header setting.transaction (draft_of ledger.entries w es)))
+    (subst
+    (λ done. Means ledger.entries es done (acts e ledger.header setting.transaction (draft_of ledger.entries w es)))
     c.in-Failed.is (c.in_ok-name-in-Kept.ensures.acts es))))
     c.failed-in-Failed.ensures.failed
 
@@ -147,5 +157,6 @@ returns-in-Kept-2-clause-performed g c =
     (subst (EndMeans ledger.entries (chain (draft_of ledger.entries c.in_ok-overlay.overlay []))) c.in-Kept.is
     c.in_ok-records.ensures.chains))
     c.in-Kept-2.overlay
-    (subst (λ done. Means ledger.entries es done (acts e ledger.header setting.transaction (draft_of ledger.entries w es)))
+    (subst
+    (λ done. Means ledger.entries es done (acts e ledger.header setting.transaction (draft_of ledger.entries w es)))
     c.in-Kept-2.is (c.in_ok-name-in-Kept.ensures.acts es)))

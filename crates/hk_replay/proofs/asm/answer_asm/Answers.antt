@@ -1,6 +1,7 @@
 use Rattle.std.proofs.Common.{arith}
 use Rattle.hk_loop.proofs.Exits.{sink_cause_since}
-use Rattle.hk_replay.proofs.Assembling.{gathered_as, halt_cause, halt_no_usage, halt_stops, no_answer, text_answered, text_stops}
+use Rattle.hk_replay.proofs.Assembling.{gathered_as, halt_cause, halt_no_usage, halt_stops, no_answer, text_answered}
+use Rattle.hk_replay.proofs.Assembling.{text_stops}
 use Rattle.hk_replay.proofs.asm.answer_asm.Goals as goal
 
 -- the text was taken whole

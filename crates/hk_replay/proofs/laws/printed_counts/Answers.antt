@@ -12,10 +12,12 @@ returns c = record {
       let held = answer.held in
       let most =
       c.runs_within.ensures.law held
-      (held_so version code held answer.holds) «export».Hook version hook_meaning 0 (alone.host code held) held.bound_hook
+      (held_so version code held answer.holds) «export».Hook version hook_meaning 0 (alone.host code held)
+      held.bound_hook
       (omega arith) answer.holds.bound_hook in
       let same =
-      c.one_ending.ensures.law hook_meaning held.wasm is_hook 0 (alone.host code held) answer.outcome most.outcome answer.count most.count
+      c.one_ending.ensures.law hook_meaning held.wasm is_hook 0 (alone.host code held) answer.outcome most.outcome
+      answer.count most.count
       answer.after most.after answer.run most.run in
       let counts : answer.count ≡ most.count = same.1 in
       let within = most.within in omega (arith, counts, within);

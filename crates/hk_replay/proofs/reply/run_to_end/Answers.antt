@@ -1,5 +1,5 @@
 use Rattle.std.proofs.Common.{◌≡◌, ◌∙◌, ap, IfOk}
-use Rattle.hk_alone.proofs.Beginning.{if_ok}
+use Rattle.std.proofs.lemmas.Result.{IfOk-weaker}
 use Rattle.hk_lines.specs.OutputForms.{line_text}
 use Rattle.hk_lines.specs.declared.output_line.OutputLine.TheVariants as printed
 use Rattle.hk_replay.proofs.reply.run_to_end.Goals as goal
@@ -7,7 +7,7 @@ use Rattle.hk_replay.proofs.reply.run_to_end.Goals as goal
 pub returns : goal.returns
 returns c = record {
   line =
-      if_ok c.run_line.result _ _ (λ text is. λ version holds. record {
+      IfOk-weaker c.run_line.result _ _ (λ text is. λ version holds. record {
         held = c.args.checked.now;
         holds = holds;
         outcome = c.in_ok-ended.ended.outcome;

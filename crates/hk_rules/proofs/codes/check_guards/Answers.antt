@@ -5,7 +5,9 @@ use Rattle.hk_rules.proofs.codes.check_guards.Goals as goal
 
 pub returns-in_err-check_codes : goal.returns-in_err-check_codes
 returns-in_err-check_codes c = record {
-  rules = exits_at (guard_rules (callees c.args.rows.now) c.args.module.now) _ _ c.from_residual.ensures.1 (λ e q. q) c.in_err-check_codes.ensures.rule;
+  rules =
+      exits_at (guard_rules (callees c.args.rows.now) c.args.module.now) _ _ c.from_residual.ensures.1 (λ e q. q)
+      c.in_err-check_codes.ensures.rule;
 }
 
 pub returns : goal.returns

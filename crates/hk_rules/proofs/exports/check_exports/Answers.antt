@@ -4,7 +4,11 @@ use Rattle.hk_rules.proofs.Least.{module_found, module_kept}
 use Rattle.hk_rules.proofs.exports.check_exports.Goals as goal
 
 pub returns-then-broken : goal.returns-then-broken
-returns-then-broken c = record { rule = module_found fault.BadExport _ (sym c.has_bad_exports-broken.ensures.bad ∙ c.if-broken.true) }
+returns-then-broken c = record {
+  rule = module_found fault.BadExport _ (sym c.has_bad_exports-broken.ensures.bad ∙ c.if-broken.true);
+}
 
 pub returns : goal.returns
-returns c = record { rule = module_kept fault.BadExport _ (sym c.has_bad_exports-broken.ensures.bad ∙ c.if-broken.false) }
+returns c = record {
+  rule = module_kept fault.BadExport _ (sym c.has_bad_exports-broken.ensures.bad ∙ c.if-broken.false);
+}

@@ -17,7 +17,8 @@ returns-in_err-rows-clause-first c =
 pub returns-in_err-check_others-clause-first : goal.returns-in_err-check_others-clause-first
 returns-in_err-check_others-clause-first c =
     exits_known (hook_rules c.args.module.now) _ _ c.from_residual-in_err-check_others.ensures.1 (λ e q. q)
-    (λ known. first_other c.args.module.now c.in_ok-rows.rows _ c.in_ok-check_floats.ensures.rules c.in_ok-rows.ensures.rows
+    (λ known. first_other c.args.module.now c.in_ok-rows.rows _ c.in_ok-check_floats.ensures.rules
+    c.in_ok-rows.ensures.rows
     (rw (sym c.as_slice-2.ensures.items) c.in_err-check_others.ensures.rules))
 
 pub returns-clause-ruled : goal.returns-clause-ruled
@@ -27,14 +28,16 @@ returns-clause-ruled c =
 
 pub check_others-requires-clause-counted : goal.check_others-requires-clause-counted
 check_others-requires-clause-counted c =
-    let n : length c.in_ok-rows.rows ≡ length c.args.module.now.imports = as_many c.args.module.now.imports c.in_ok-rows.rows c.in_ok-rows.ensures.rows.named in
+    let n : length c.in_ok-rows.rows ≡ length c.args.module.now.imports =
+    as_many c.args.module.now.imports c.in_ok-rows.rows c.in_ok-rows.ensures.rows.named in
     let m : length c.as_slice-2.result.now ≡ length c.in_ok-rows.rows = ap length c.as_slice-2.ensures.items in
     let most : length c.args.module.now.imports < 2 ^ 32 = c.requires.sound.imports.counted in
     omega (arith, n, m, most)
 
 pub guards_of-requires-clause-counted : goal.guards_of-requires-clause-counted
 guards_of-requires-clause-counted c =
-    let n : length c.in_ok-rows.rows ≡ length c.args.module.now.imports = as_many c.args.module.now.imports c.in_ok-rows.rows c.in_ok-rows.ensures.rows.named in
+    let n : length c.in_ok-rows.rows ≡ length c.args.module.now.imports =
+    as_many c.args.module.now.imports c.in_ok-rows.rows c.in_ok-rows.ensures.rows.named in
     let most : length c.args.module.now.imports < 2 ^ 32 = c.requires.sound.imports.counted in
     omega (arith, n, most)
 

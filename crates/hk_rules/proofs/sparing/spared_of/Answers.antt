@@ -11,11 +11,14 @@ loop-place-preserved c =
     let pushed : reverse c.push.new.self.items ≡ c.in_ok-saving.field-0 ∷ reverse c.loop-place.found.items =
     ap reverse c.in_ok-push.ensures.items ∙ reverse-append c.loop-place.found.items (c.in_ok-saving.field-0 ∷ []) in
     rw (pushed, c.in_ok-saving.ensures.saving, c.in_ok-saving.ensures.arms)
-    (one_more c.args.ops.now (c.loop-place.place - 1) c.index-ops-place.result (reverse c.loop-place.found.items) c.loop-place.arms
-    (nested_unbroken c.args.ops.now c.requires.nested) (omega arith) c.index-ops-place.is (subst P e c.loop-place.invariant))
+    (one_more c.args.ops.now (c.loop-place.place - 1) c.index-ops-place.result (reverse c.loop-place.found.items)
+    c.loop-place.arms
+    (nested_unbroken c.args.ops.now c.requires.nested) (omega arith) c.index-ops-place.is
+    (subst P e c.loop-place.invariant))
 
 pub returns : goal.returns
 returns c = record {
   spared = λ body reads. c.from_vec.ensures.items ∙ c.reverse.ensures.items
-      ∙ all_spared c.args.ops.now c.loop-place.place (reverse c.loop-place.found.items) c.loop-place.arms body (omega arith) c.loop-place.invariant reads;
+      ∙ all_spared c.args.ops.now c.loop-place.place (reverse c.loop-place.found.items) c.loop-place.arms body
+      (omega arith) c.loop-place.invariant reads;
 }

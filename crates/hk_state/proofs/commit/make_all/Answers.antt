@@ -7,11 +7,14 @@ use Rattle.hk_state.proofs.commit.make_all.Goals as goal
 pub returns-in-Ok-clause-ok : goal.returns-in-Ok-clause-ok
 returns-in-Ok-clause-ok c =
     c.make_each.ensures.made
-    ∙ readied c.args.entries.now c.make_room.new.entries c.make_room.new.added.items c.overlay.inside.writes.entries c.make_room.ensures.adds
-    ∙ as_writes c.args.entries.now c.overlay.inside.writes.entries (drop c.overlay.inside.from (keys c.overlay.inside.writes))
+    ∙ readied c.args.entries.now c.make_room.new.entries c.make_room.new.added.items c.overlay.inside.writes.entries
+    c.make_room.ensures.adds
+    ∙ as_writes c.args.entries.now c.overlay.inside.writes.entries
+    (drop c.overlay.inside.from (keys c.overlay.inside.writes))
     ∙ ap (with_writes c.args.entries.now) c.overlay.view_is
 
 pub returns-in-Err-clause-cause : goal.returns-in-Err-clause-cause
 returns-in-Err-clause-cause c =
     subst (AddsKey c.args.entries.now) c.overlay.view_is
-    (as_cause c.args.entries.now c.overlay.inside.writes.entries (drop c.overlay.inside.from (keys c.overlay.inside.writes)) c.in-Err.ensures.cause)
+    (as_cause c.args.entries.now c.overlay.inside.writes.entries
+    (drop c.overlay.inside.from (keys c.overlay.inside.writes)) c.in-Err.ensures.cause)

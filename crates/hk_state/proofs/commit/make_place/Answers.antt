@@ -14,10 +14,15 @@ pub returns-clause-adds : goal.returns-clause-adds
 returns-clause-adds c base puts put adds =
     subst (Adds base puts c.put.new.self) (sym c.in_ok-push.ensures.items)
     (adds_more base c.args.entries.now c.put.new.self puts c.args.added.now.items c.args.key.now put (absent c)
-    (others c.put.result c.args.entries.now c.put.new.self c.args.key.now (entry.Other c.new.result) c.put.ensures.ok c.put.ensures.err) adds)
+    (others c.put.result c.args.entries.now c.put.new.self c.args.key.now (entry.Other c.new.result) c.put.ensures.ok
+    c.put.ensures.err) adds)
 
 pub returns-clause-there : goal.returns-clause-there
-returns-clause-there c = on_ok_weaker c.put.result (put_there c.args.entries.now c.put.new.self c.args.key.now (entry.Other c.new.result)) c.put.ensures.ok
+returns-clause-there c =
+    on_ok_weaker c.put.result (put_there c.args.entries.now c.put.new.self c.args.key.now (entry.Other c.new.result))
+    c.put.ensures.ok
 
 pub returns-clause-stays : goal.returns-clause-stays
-returns-clause-stays c = stays c.put.result c.args.entries.now c.put.new.self c.args.key.now (entry.Other c.new.result) c.put.ensures.ok c.put.ensures.err (absent c)
+returns-clause-stays c =
+    stays c.put.result c.args.entries.now c.put.new.self c.args.key.now (entry.Other c.new.result) c.put.ensures.ok
+    c.put.ensures.err (absent c)

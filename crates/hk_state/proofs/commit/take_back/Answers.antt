@@ -14,4 +14,9 @@ pub returns : goal.returns
 returns c =
     let long : vec_len c.loop-key.added ≡ length c.loop-key.added.items = search rules in
     let none = nil_from_length c.loop-key.added.items (sym long ∙ c.in_default.ensures.cases.0) in
-    record { taken = λ base puts adds. adds_nothing base c.loop-key.entries puts (subst (Adds base puts c.loop-key.entries) none (c.loop-key.invariant base puts adds)) }
+    record {
+      taken =
+          λ base puts adds.
+          adds_nothing base c.loop-key.entries puts
+          (subst (Adds base puts c.loop-key.entries) none (c.loop-key.invariant base puts adds));
+    }

@@ -6,7 +6,9 @@ use Rattle.hk_state.proofs.commit.take_back.Given as goal
 
 -- the keys that are left are those that are still there
 abbrev pub invariant-loop-key : goal.invariant-loop-key
-invariant-loop-key l = (base : Entries) (puts : Key → Bool) → Adds base puts l.fn.entries l.fn.added.items → Adds base puts l.entries l.added.items
+invariant-loop-key l =
+    (base : Entries) (puts : Key → Bool) → Adds base puts l.fn.entries l.fn.added.items →
+    Adds base puts l.entries l.added.items
 
 abbrev pub decreases-loop-key : goal.decreases-loop-key
 decreases-loop-key l = length l.added.items

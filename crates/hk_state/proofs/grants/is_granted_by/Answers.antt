@@ -14,13 +14,17 @@ loop-next-init c =
     let m = c.args.ledger.now.entries in
     let start = first_install c.args.owner.now in
     let grants = has_grant c.args.hash.now c.args.actor.now c.args.namespace.now in
-    ap (λ es. list_any (λ e. grants e.1) (run (is_own start) es)) (sym (head_from m start (option_map deref_pair c.least_from-next.result) c.least_from-next.ensures.least)) ∙ some_own m start grants
+    ap (λ es. list_any (λ e. grants e.1) (run (is_own start) es))
+    (sym (head_from m start (option_map deref_pair c.least_from-next.result) c.least_from-next.ensures.least))
+    ∙ some_own m start grants
 
 pub loop-next-smaller : goal.loop-next-smaller
 loop-next-smaller c =
     let m = c.args.ledger.now.entries in
-    let fewer : length (on_from (entries m) (option_map deref_pair c.loop-next.next)) ≡ suc (length (on_from (entries m) (option_map deref_pair c.least_after-next.result))) =
-    ap length (on_from-next m deref_pair c.loop-next.next (c.in-Some.key, c.in-Some.entry) (option_map deref_pair c.least_after-next.result) c.in-Some.is c.least_after-next.ensures.least) in
+    let fewer : length (on_from (entries m) (option_map deref_pair c.loop-next.next))
+    ≡ suc (length (on_from (entries m) (option_map deref_pair c.least_after-next.result))) =
+    ap length (on_from-next m deref_pair c.loop-next.next (c.in-Some.key, c.in-Some.entry)
+    (option_map deref_pair c.least_after-next.result) c.in-Some.is c.least_after-next.ensures.least) in
     omega (arith, fewer)
 
 pub loop-next-preserved : goal.loop-next-preserved
@@ -29,7 +33,9 @@ loop-next-preserved c =
     let start = first_install c.args.owner.now in
     let grants = has_grant c.args.hash.now c.args.actor.now c.args.namespace.now in
     let rest = on_from (entries m) (option_map deref_pair c.least_after-next.result) in
-    sym (ap (λ es. list_any (λ e. grants e.1) (run (is_own start) es)) (on_from-next m deref_pair c.loop-next.next (c.in-Some.key, c.in-Some.entry) (option_map deref_pair c.least_after-next.result) c.in-Some.is c.least_after-next.ensures.least)
+    sym (ap (λ es. list_any (λ e. grants e.1) (run (is_own start) es)) (on_from-next m deref_pair c.loop-next.next
+    (c.in-Some.key, c.in-Some.entry) (option_map deref_pair c.least_after-next.result) c.in-Some.is
+    c.least_after-next.ensures.least)
     ∙ one_own (is_own start) grants c.in-Some.key.now c.in-Some.entry.now rest (sym c.if-not-is_own.ensures.own)
     ∙ ap (λ b. b || list_any (λ e. grants e.1) (run (is_own start) rest)) (sym c.if-has_grant.ensures.has))
     ∙ c.loop-next.invariant

@@ -27,8 +27,11 @@ loop-key-preserved c =
     let change = c.in-Some.change.now in
     let test = is_from_start key_cmp (bound_map (λ k. k.now) c.args.start) in (
       subst (LeastBut (λ q. put_of (find key_cmp q es)) test c.next.new.self) (sym c.lesser_put-least.ensures.lesser)
-          (one_so_far (λ q. put_of (find key_cmp q es)) test c.loop-key.key-iterator c.next.new.self key change c.in-Some.ensures.steps
-          (ap put_of (found_end eq-value.it alike c.loop-key.key-iterator c.next.new.self es key change c.in-Some.ensures.steps c.iter-key-items.ensures.unique c.loop-key.invariant.1))
+          (one_so_far (λ q. put_of (find key_cmp q es)) test c.loop-key.key-iterator c.next.new.self key change
+          c.in-Some.ensures.steps
+          (ap put_of (found_end eq-value.it alike c.loop-key.key-iterator c.next.new.self es key change
+          c.in-Some.ensures.steps c.iter-key-items.ensures.unique c.loop-key.invariant.1))
           (option_map deref_pair c.loop-key.least) c.loop-key.invariant.0),
-      less_end eq-value.it alike c.loop-key.key-iterator c.next.new.self es (key, change) c.in-Some.ensures.steps c.loop-key.invariant.1,
+      less_end eq-value.it alike c.loop-key.key-iterator c.next.new.self es (key, change) c.in-Some.ensures.steps
+          c.loop-key.invariant.1,
     )

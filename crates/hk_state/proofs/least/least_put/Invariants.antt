@@ -14,5 +14,6 @@ use Rattle.hk_state.proofs.least.least_put.Given as goal
 -- the least of what the writes before those that are left put
 abbrev pub invariant-loop-key : goal.invariant-loop-key
 invariant-loop-key l =
-    LeastBut (λ q. put_of (find key_cmp q l.writes.entries)) (is_from_start key_cmp (bound_map (λ key. key.now) l.start)) l.key-iterator (option_map deref_pair l.least)
+    LeastBut (λ q. put_of (find key_cmp q l.writes.entries))
+    (is_from_start key_cmp (bound_map (λ key. key.now) l.start)) l.key-iterator (option_map deref_pair l.least)
     × IsEnd eq-value.it alike l.key-iterator l.writes.entries

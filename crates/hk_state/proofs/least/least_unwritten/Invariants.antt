@@ -6,4 +6,5 @@ use Rattle.hk_state.proofs.least.least_unwritten.Given as goal
 
 -- what isn't changed stands among the entries that are left
 abbrev pub invariant-loop-key : goal.invariant-loop-key
-invariant-loop-key l = IsLeft l.entries l.writes.entries (is_from_start key_cmp (bound_map (λ key. key.now) l.start)) l.key-iterator
+invariant-loop-key l =
+    IsLeft l.entries l.writes.entries (is_from_start key_cmp (bound_map (λ key. key.now) l.start)) l.key-iterator

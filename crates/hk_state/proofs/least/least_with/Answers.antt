@@ -12,7 +12,10 @@ use Rattle.hk_state.proofs.least.least_with.Goals as goal
 pub returns : goal.returns
 returns c = record {
   least =
-      subst (Least (with_all c.args.entries.now c.args.writes.now.entries) (is_from_start key_cmp (bound_map (λ key. key.now) c.args.start))) (sym c.lesser.ensures.lesser)
-      (least_written c.args.entries.now c.args.writes.now.entries (is_from_start key_cmp (bound_map (λ key. key.now) c.args.start)) (option_map deref_pair c.least_unwritten-kept.result) (option_map deref_pair c.least_put-put.result)
+      subst (Least (with_all c.args.entries.now c.args.writes.now.entries)
+      (is_from_start key_cmp (bound_map (λ key. key.now) c.args.start))) (sym c.lesser.ensures.lesser)
+      (least_written c.args.entries.now c.args.writes.now.entries
+      (is_from_start key_cmp (bound_map (λ key. key.now) c.args.start))
+      (option_map deref_pair c.least_unwritten-kept.result) (option_map deref_pair c.least_put-put.result)
       c.least_unwritten-kept.ensures.least c.least_put-put.ensures.least);
 }

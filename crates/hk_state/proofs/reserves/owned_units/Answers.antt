@@ -13,23 +13,33 @@ pub loop-next-init : goal.loop-next-init
 loop-next-init c =
     let m = with_writes c.args.ledger.now.entries c.args.overlay.now in
     let start = c.args.first.now in
-    let all : total entry_units (run (is_own start) (on_from (entries m) (option_map deref_pair c.least_from-next.result))) ≡ sum (own_units start) m =
-    ap (λ es. total entry_units (run (is_own start) es)) (sym (head_from m start (option_map deref_pair c.least_from-next.result) c.least_from-next.ensures.least)) ∙ all_units m start in
+    let all : total entry_units
+    (run (is_own start) (on_from (entries m) (option_map deref_pair c.least_from-next.result)))
+    ≡ sum (own_units start) m =
+    ap (λ es. total entry_units (run (is_own start) es))
+    (sym (head_from m start (option_map deref_pair c.least_from-next.result) c.least_from-next.ensures.least))
+    ∙ all_units m start in
     omega (arith, all)
 
 pub loop-next-smaller : goal.loop-next-smaller
 loop-next-smaller c =
     let m = with_writes c.args.ledger.now.entries c.args.overlay.now in
-    let fewer : length (on_from (entries m) (option_map deref_pair c.loop-next.next)) ≡ suc (length (on_from (entries m) (option_map deref_pair c.least_after-next.result))) =
-    ap length (on_from-next m deref_pair c.loop-next.next (c.in-Some.key, c.in-Some.entry) (option_map deref_pair c.least_after-next.result) c.in-Some.is c.least_after-next.ensures.least) in
+    let fewer : length (on_from (entries m) (option_map deref_pair c.loop-next.next))
+    ≡ suc (length (on_from (entries m) (option_map deref_pair c.least_after-next.result))) =
+    ap length (on_from-next m deref_pair c.loop-next.next (c.in-Some.key, c.in-Some.entry)
+    (option_map deref_pair c.least_after-next.result) c.in-Some.is c.least_after-next.ensures.least) in
     omega (arith, fewer)
 
 pub loop-next-preserved : goal.loop-next-preserved
 loop-next-preserved c =
     let m = with_writes c.args.ledger.now.entries c.args.overlay.now in
     let start = c.args.first.now in
-    let step = ap (λ es. total entry_units (run (is_own start) es)) (on_from-next m deref_pair c.loop-next.next (c.in-Some.key, c.in-Some.entry) (option_map deref_pair c.least_after-next.result) c.in-Some.is c.least_after-next.ensures.least)
-    ∙ one_unit (is_own start) c.in-Some.key.now c.in-Some.entry.now (on_from (entries m) (option_map deref_pair c.least_after-next.result)) (sym c.if-not-is_own.ensures.own) in
+    let step =
+    ap (λ es. total entry_units (run (is_own start) es)) (on_from-next m deref_pair c.loop-next.next
+    (c.in-Some.key, c.in-Some.entry) (option_map deref_pair c.least_after-next.result) c.in-Some.is
+    c.least_after-next.ensures.least)
+    ∙ one_unit (is_own start) c.in-Some.key.now c.in-Some.entry.now
+    (on_from (entries m) (option_map deref_pair c.least_after-next.result)) (sym c.if-not-is_own.ensures.own) in
     let units = c.units_in-units.ensures.units in
     let before = c.loop-next.invariant in
     omega (arith, step, units, before)

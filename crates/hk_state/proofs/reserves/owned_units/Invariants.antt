@@ -12,8 +12,11 @@ use Rattle.hk_state.proofs.reserves.owned_units.Given as goal
 -- the units so far, and those of the entries from the next one on
 abbrev pub invariant-loop-next : goal.invariant-loop-next
 invariant-loop-next l =
-    l.units + total entry_units (run (is_own l.first) (on_from (entries (with_writes l.ledger.entries l.overlay)) (option_map deref_pair l.next)))
+    l.units +
+    total entry_units
+    (run (is_own l.first) (on_from (entries (with_writes l.ledger.entries l.overlay)) (option_map deref_pair l.next)))
     ≡ sum (own_units l.first) (with_writes l.ledger.entries l.overlay)
 
 abbrev pub decreases-loop-next : goal.decreases-loop-next
-decreases-loop-next l = length (on_from (entries (with_writes l.ledger.entries l.overlay)) (option_map deref_pair l.next))
+decreases-loop-next l =
+    length (on_from (entries (with_writes l.ledger.entries l.overlay)) (option_map deref_pair l.next))

@@ -8,6 +8,8 @@ returns c =
     let found = found_of c.args.bytes.now c.module.result c.module.ensures in
     record {
       found = found;
-      sound = sound_of c.args.bytes.now c.module.result (bytes_of c.args.bytes.now (λ i. omega (arith, c.type_inv.bytes i))) found;
+      sound =
+          sound_of c.args.bytes.now c.module.result (bytes_of c.args.bytes.now (λ i. omega (arith, c.type_inv.bytes i)))
+          found;
       malformed = malformed_of c.args.bytes.now c.module.result c.module.ensures;
     }

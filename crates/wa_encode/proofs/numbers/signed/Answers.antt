@@ -6,7 +6,8 @@ use Rattle.wa_encode.proofs.numbers.signed.Goals as goal
 use Rattle.wa_encode.proofs.numbers.signed.Goals.{then-rest-ltminus64, else-rest-ltminus64+then-rest-ge64}
 
 pub loop-rest-init : goal.loop-rest-init
-loop-rest-init c = rw (to_z-of_z w64 c.args.value c.ranges.value) (begins_signed c.args.out.now.items c.args.value c.ranges.value)
+loop-rest-init c =
+    rw (to_z-of_z w64 c.args.value c.ranges.value) (begins_signed c.args.out.now.items c.args.value c.ranges.value)
 
 pub loop-rest-preserved : goal.loop-rest-preserved
 loop-rest-preserved c =
@@ -32,5 +33,6 @@ returns c =
     let short = short_between rest c.if-rest-ltminus64.false c.if-rest-ge64.false in
     record {
       bytes = rw (c.in_ok-push-2.ensures.items, to_z-of_z w64 c.rem_euclid-2.result low, c.rem_euclid-2.ensures.value)
-          (ends_signed _ _ rest short c.loop-rest.invariant ∙ ap (λ z. c.args.out.now.items ++ signed z) (to_z-of_z w64 c.args.value c.ranges.value));
+          (ends_signed _ _ rest short c.loop-rest.invariant
+          ∙ ap (λ z. c.args.out.now.items ++ signed z) (to_z-of_z w64 c.args.value c.ranges.value));
     }

@@ -4,7 +4,8 @@ use Rattle.wa_text.proofs.assembling.read_module.Goals as goal
 
 pub loop-line-preserved : goal.loop-line-preserved
 loop-line-preserved c =
-    goes_on c.args.text.now c.loop-line.draft c.take_line.new.draft c.loop-line.number c.loop-line.rest.now c.in-Some.line.now c.in-Some.more.now
+    goes_on c.args.text.now c.loop-line.draft c.take_line.new.draft c.loop-line.number c.loop-line.rest.now
+    c.in-Some.line.now c.in-Some.more.now
     c.loop-line.invariant
     c.in-Some.ensures.line
     c.in-Some.ensures.shorter

@@ -7,6 +7,7 @@ use Rattle.wa_validate.proofs.scope.add_locals.Goals as goal
 pub returns-in-None : goal.returns-in-None
 returns-in-None c = record {
   locals = sym (ap (λ o. c.args.locals.now ++ locals_of o)
-      (ap (λ xs. slice_get xs c.args.function) (sym c.as_slice.ensures.items) ∙ get_none c.as_slice.result.now c.args.function c.get.result c.get.ensures.lookup c.in-None.is)
+      (ap (λ xs. slice_get xs c.args.function) (sym c.as_slice.ensures.items)
+      ∙ get_none c.as_slice.result.now c.args.function c.get.result c.get.ensures.lookup c.in-None.is)
       ∙ append-nil c.args.locals.now);
 }

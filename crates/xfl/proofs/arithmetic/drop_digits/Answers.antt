@@ -7,4 +7,5 @@ pub nonzero_div-result : goal.nonzero_div-result
 nonzero_div-result c = omega (arith, c.pow.ensures, ten_pos c.args.dropped)
 
 pub returns-then-dropped-gt16 : goal.returns-then-dropped-gt16
-returns-then-dropped-gt16 c = ap pos (sym (all_dropped c.args.mantissa c.args.dropped c.requires c.if-dropped-gt16.true))
+returns-then-dropped-gt16 c =
+    ap pos (sym (all_dropped c.args.mantissa c.args.dropped c.requires c.if-dropped-gt16.true))

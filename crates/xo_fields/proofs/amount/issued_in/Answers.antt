@@ -41,7 +41,8 @@ returns-then-bytes-lt-ISSUED_SIZE c =
 
 pub returns-else-bytes-lt-ISSUED_SIZE : goal.returns-else-bytes-lt-ISSUED_SIZE
 returns-else-bytes-lt-ISSUED_SIZE c =
-    decimal_there c.args.bytes.now c.from_be_bytes-low.result c.from_be_bytes-high.result c.in-Some.value c.twenty.result c.twenty-else-bytes-lt-ISSUED_SIZE.result
+    decimal_there c.args.bytes.now c.from_be_bytes-low.result c.from_be_bytes-high.result c.in-Some.value
+    c.twenty.result c.twenty-else-bytes-lt-ISSUED_SIZE.result
     (record {
       some = c.requires.some;
       first = c.requires.low;
@@ -49,4 +50,5 @@ returns-else-bytes-lt-ISSUED_SIZE c =
       low_is = c.from_be_bytes-low.ensures ∙ ap (λ x. from_be_bytes w64 x) c.padded.ensures;
       high_is = c.from_be_bytes-high.ensures ∙ ap (λ x. from_be_bytes w64 x) c.padded-2.ensures;
     })
-    (sym c.in-Some.is ∙ c.least_decimal.ensures) c.if-high-value.false c.if-bytes-lt-ISSUED_SIZE.false c.twenty.ensures c.twenty-else-bytes-lt-ISSUED_SIZE.ensures
+    (sym c.in-Some.is ∙ c.least_decimal.ensures) c.if-high-value.false c.if-bytes-lt-ISSUED_SIZE.false c.twenty.ensures
+    c.twenty-else-bytes-lt-ISSUED_SIZE.ensures

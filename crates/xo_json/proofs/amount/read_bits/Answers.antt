@@ -21,6 +21,9 @@ returns-in-Ok-None c = record {
 pub returns-in-Ok-Some : goal.returns-in-Ok-Some
 returns-in-Ok-Some c = record {
   bits =
-      let told = rw c.in-Ok-Some.field-0-is at c.in-Ok-Some.ensures.number in
-      (omega (arith, told.0), decimal_shows (view c.args.value.now) c.in-Ok-Some.bits (omega (arith, told.0)) (text_is _ _ (sym c.in-Some.ensures) ∙ ap string told.1));
+      let told = rw c.in-Ok-Some.field-0-is at c.in-Ok-Some.ensures.number in (
+        omega (arith, told.0),
+        decimal_shows (view c.args.value.now) c.in-Ok-Some.bits (omega (arith, told.0))
+            (text_is _ _ (sym c.in-Some.ensures) ∙ ap string told.1),
+      );
 }

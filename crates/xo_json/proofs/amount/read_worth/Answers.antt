@@ -12,8 +12,14 @@ returns-then-not-is_amount c = record {
   worth = λ other. (
     refl,
     λ bytes w.
-        let same : w.bits ≡ c.in-Ok.bits = bits_one (view c.args.value.now) w.bits c.in-Ok.bits w.small c.in-Ok.ensures.bits.0 w.shows c.in-Ok.ensures.bits.1 in
-        never_true c.is_amount.result (c.is_amount.ensures.amount.1 (subst IsAmount (w.is ∙ ap (λ n. issued_bytes n c.args.currency.now c.args.issuer.now) same ∙ sym c.in-Ok-issued.ensures.bytes ∙ sym c.as_slice.ensures.value) w.amount))
+        let same : w.bits ≡ c.in-Ok.bits =
+        bits_one (view c.args.value.now) w.bits c.in-Ok.bits w.small c.in-Ok.ensures.bits.0 w.shows
+        c.in-Ok.ensures.bits.1 in
+        never_true c.is_amount.result (c.is_amount.ensures.amount.1 (subst IsAmount
+        (w.is
+        ∙ ap (λ n. issued_bytes n c.args.currency.now c.args.issuer.now) same
+        ∙ sym c.in-Ok-issued.ensures.bytes
+        ∙ sym c.as_slice.ensures.value) w.amount))
         c.if-not-is_amount.true,
   );
 }

@@ -9,7 +9,8 @@ returns-then-len-gt-LONGEST c = record {
   value = λ room other. (
     refl,
     λ value s.
-        let long : length value ≡ length c.in-Ok.bytes.items = hex_length (view c.args.value.now) c.in-Ok.bytes.items value c.in-Ok.ensures.hex s.bytes s.shows in
+        let long : length value ≡ length c.in-Ok.bytes.items =
+        hex_length (view c.args.value.now) c.in-Ok.bytes.items value c.in-Ok.ensures.hex s.bytes s.shows in
         omega (arith, s.fits, c.len.ensures),
   );
 }

@@ -11,7 +11,8 @@ returns-in-None c = record {
   hex = λ other. (
     refl,
     λ bytes small shows.
-        no_hex (view c.args.value.now) c.as_bytes.result.now bytes (text_is _ _ (sym c.in-Some.ensures) ∙ ap string (sym c.as_bytes.ensures.value))
+        no_hex (view c.args.value.now) c.as_bytes.result.now bytes
+        (text_is _ _ (sym c.in-Some.ensures) ∙ ap string (sym c.as_bytes.ensures.value))
         (rw c.in-None.is at (sym c.in-Ok.ensures.bytes)) small shows,
   );
 }
@@ -19,5 +20,6 @@ returns-in-None c = record {
 pub returns-in-Some-found : goal.returns-in-Some-found
 returns-in-Some-found c = record {
   hex = is_hex (view c.args.value.now) c.as_bytes.result.now c.in-Some-found.bytes.items
-      (text_is _ _ (sym c.in-Some.ensures) ∙ ap string (sym c.as_bytes.ensures.value)) (rw c.in-Some-found.is at (sym c.in-Ok.ensures.bytes));
+      (text_is _ _ (sym c.in-Some.ensures) ∙ ap string (sym c.as_bytes.ensures.value))
+      (rw c.in-Some-found.is at (sym c.in-Ok.ensures.bytes));
 }

@@ -15,19 +15,32 @@ returns-then-ne c = record {
   value = λ room other. (
     refl,
     λ value s.
-        let zeros = no_number_shows room c.in-Some.number c.args.size (view c.args.value.now) value c.requires (number_is _ _ (sym c.in-Some.ensures)) s in
-        compared_other (take (8 - c.args.size) c.to_be_bytes-bytes.result) (take (8 - c.args.size) (replicate 8 0)) c.if-ne.ensures
-        (ap (take (8 - c.args.size)) c.to_be_bytes-bytes.ensures ∙ zeros ∙ sym (take-replicate (8 - c.args.size) 8 0 (omega arith))),
+        let zeros =
+        no_number_shows room c.in-Some.number c.args.size (view c.args.value.now) value c.requires
+        (number_is _ _ (sym c.in-Some.ensures)) s in
+        compared_other (take (8 - c.args.size) c.to_be_bytes-bytes.result) (take (8 - c.args.size) (replicate 8 0))
+        c.if-ne.ensures
+        (ap (take (8 - c.args.size)) c.to_be_bytes-bytes.ensures
+        ∙ zeros
+        ∙ sym (take-replicate (8 - c.args.size) 8 0 (omega arith))),
   );
 }
 
 pub returns-in-Ok : goal.returns-in-Ok
 returns-in-Ok c = record {
   value = λ room.
-      let front = compared_same (take (8 - c.args.size) c.to_be_bytes-bytes.result) (take (8 - c.args.size) (replicate 8 0)) c.if-ne.ensures in
-      let told = number_shows room c.in-Some.number c.args.size (view c.args.value.now) c.requires (omega arith) (number_is _ _ (sym c.in-Some.ensures))
-      (sym (ap (take (8 - c.args.size)) c.to_be_bytes-bytes.ensures) ∙ front ∙ take-replicate (8 - c.args.size) 8 0 (omega arith)) in
+      let front =
+      compared_same (take (8 - c.args.size) c.to_be_bytes-bytes.result) (take (8 - c.args.size) (replicate 8 0))
+      c.if-ne.ensures in
+      let told =
+      number_shows room c.in-Some.number c.args.size (view c.args.value.now) c.requires (omega arith)
+      (number_is _ _ (sym c.in-Some.ensures))
+      (sym (ap (take (8 - c.args.size)) c.to_be_bytes-bytes.ensures)
+      ∙ front
+      ∙ take-replicate (8 - c.args.size) 8 0 (omega arith)) in
       subst (ShowsValue room (Fixed c.args.size) (view c.args.value.now))
-      (sym (c.in-Ok.ensures.items ∙ ap (λ bytes. take (8 - (8 - c.args.size)) (drop (8 - c.args.size) bytes)) c.to_be_bytes-bytes.ensures
-      ∙ take_all (8 - (8 - c.args.size)) (drop (8 - c.args.size) (to_be_bytes w64 c.in-Some.number)) (omega (arith, length-drop (8 - c.args.size) (to_be_bytes w64 c.in-Some.number))))) told;
+      (sym (c.in-Ok.ensures.items
+      ∙ ap (λ bytes. take (8 - (8 - c.args.size)) (drop (8 - c.args.size) bytes)) c.to_be_bytes-bytes.ensures
+      ∙ take_all (8 - (8 - c.args.size)) (drop (8 - c.args.size) (to_be_bytes w64 c.in-Some.number))
+      (omega (arith, length-drop (8 - c.args.size) (to_be_bytes w64 c.in-Some.number))))) told;
 }

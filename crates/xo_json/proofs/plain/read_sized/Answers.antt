@@ -9,7 +9,9 @@ returns-then-len-size c = record {
   value = λ room other. (
     refl,
     λ value s.
-        let long : length value ≡ length c.in-Ok.bytes.items = hex_length (view c.args.value.now) c.in-Ok.bytes.items value c.in-Ok.ensures.hex s.bytes (s.shows ∙ fixed_hex c.args.size value c.requires) in
+        let long : length value ≡ length c.in-Ok.bytes.items =
+        hex_length (view c.args.value.now) c.in-Ok.bytes.items value c.in-Ok.ensures.hex s.bytes
+        (s.shows ∙ fixed_hex c.args.size value c.requires) in
         c.if-len-size.true (omega (arith, s.fits, c.len.ensures)),
   );
 }

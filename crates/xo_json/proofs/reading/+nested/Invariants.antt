@@ -37,11 +37,15 @@ decreases-read_inner l = 5 * l.room + 2
 abbrev pub invariant-read_members-loop-key : goal.invariant-read_members-loop-key
 invariant-read_members-loop-key l =
     (done : List Entry) × (l.members.entries ≡ done ++ l.key-iterator) × Held l.room l.fields (members_view done)
-    × ((fault : JsonFault) → MembersFail (ValueFails l.room) (ShowsValue l.room) (members_view l.key-iterator) fault → MembersFail (ValueFails l.room) (ShowsValue l.room) (members_view l.members.entries) fault)
+    × ((fault : JsonFault) → MembersFail (ValueFails l.room) (ShowsValue l.room) (members_view l.key-iterator) fault →
+    MembersFail (ValueFails l.room) (ShowsValue l.room) (members_view l.members.entries) fault)
 
 -- the elements so far, before any that show the rest, show all; and where one of the rest fails first, so do all
 abbrev pub invariant-read_elements-loop-value : goal.invariant-read_elements-loop-value
 invariant-read_elements-loop-value l =
     (xs : List Item) × (l.bytes.items ≡ spell xs)
-    × ((ys : List Item) → ShowsElements l.room (items_view (drop l.value-index l.value-items)) ys → ShowsElements l.room (items_view l.value-items) (xs ++ ys))
-    × ((fault : JsonFault) → ItemsFail (ValueFails l.room) (ShowsValue l.room) (items_view (drop l.value-index l.value-items)) fault → ItemsFail (ValueFails l.room) (ShowsValue l.room) (items_view l.value-items) fault)
+    × ((ys : List Item) → ShowsElements l.room (items_view (drop l.value-index l.value-items)) ys →
+    ShowsElements l.room (items_view l.value-items) (xs ++ ys))
+    × ((fault : JsonFault) →
+    ItemsFail (ValueFails l.room) (ShowsValue l.room) (items_view (drop l.value-index l.value-items)) fault →
+    ItemsFail (ValueFails l.room) (ShowsValue l.room) (items_view l.value-items) fault)

@@ -5,4 +5,8 @@ pub returns-in-Bad : goal.returns-in-Bad
 returns-in-Bad c = record { amount = amount_refused c.args.value.now c.in-Bad.ensures.read }
 
 pub returns-in-Amount : goal.returns-in-Amount
-returns-in-Amount c = record { amount = amount_whole c.one_amount.ensures.law c.args.value.now c.in-Amount.amount c.in-Amount.size c.in-Amount.ensures.read }
+returns-in-Amount c = record {
+  amount =
+      amount_whole c.one_amount.ensures.law c.args.value.now c.in-Amount.amount c.in-Amount.size
+      c.in-Amount.ensures.read;
+}

@@ -5,4 +5,5 @@ use Rattle.xo_object.specs.Transaction.{Each, IsElement, GrantIs}
 use Rattle.xo_object.proofs.lists.grants_of.Given as goal
 
 abbrev pub invariant-loop-element : goal.invariant-loop-element
-invariant-loop-element l = Each (IsElement hook_grant GrantIs) (items_of l.bytes (take l.element-index l.elements)) l.grants
+invariant-loop-element l =
+    Each (IsElement hook_grant GrantIs) (items_of l.bytes (take l.element-index l.elements)) l.grants

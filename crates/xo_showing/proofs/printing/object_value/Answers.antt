@@ -10,8 +10,10 @@ pub members_of-requires : goal.members_of-requires
 members_of-requires c = record {
   placed = subst (λ bytes. All (IsPlaced 10 bytes) c.items.result.now) (sym c.bytes.ensures.bytes)
       (subst (λ spans. All (IsPlaced 10 c.args.object.now.bytes) spans) (sym c.items.ensures.spans)
-      (whole_placed 10 false c.args.object.now.bytes c.args.object.now.spans c.items.ensures.read.object c.items.ensures.read.ranges));
+      (whole_placed 10 false c.args.object.now.bytes c.args.object.now.spans c.items.ensures.read.object
+      c.items.ensures.read.ranges));
 }
 
 pub returns-clause-fields : goal.returns-clause-fields
-returns-clause-fields c = (listed (IsValue 10) false 0 (items c.args.object.now) c.args.object.now.bytes c.items.ensures.read.object).0
+returns-clause-fields c =
+    (listed (IsValue 10) false 0 (items c.args.object.now) c.args.object.now.bytes c.items.ensures.read.object).0

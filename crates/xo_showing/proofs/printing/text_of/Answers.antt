@@ -5,8 +5,10 @@ use Rattle.xo_showing.proofs.printing.text_of.Goals as goal
 
 pub returns-clause-text : goal.returns-clause-text
 returns-clause-text c =
-    text_is (view c.in_ok-value.value) (items c.args.object.now) c.in_ok-to_vec.field-0.items c.in_ok-value.ensures.fields c.in_ok-value.ensures.value c.in_ok-to_vec.ensures.text
+    text_is (view c.in_ok-value.value) (items c.args.object.now) c.in_ok-to_vec.field-0.items
+    c.in_ok-value.ensures.fields c.in_ok-value.ensures.value c.in_ok-to_vec.ensures.text
 
 pub returns-clause-reads_back : goal.returns-clause-reads_back
 returns-clause-reads_back c =
-    text_shows (view c.in_ok-value.value) (items c.args.object.now) c.in_ok-to_vec.field-0.items c.in_ok-value.ensures.fields c.in_ok-value.ensures.value c.in_ok-to_vec.ensures.reads_back
+    text_shows (view c.in_ok-value.value) (items c.args.object.now) c.in_ok-to_vec.field-0.items
+    c.in_ok-value.ensures.fields c.in_ok-value.ensures.value c.in_ok-to_vec.ensures.reads_back

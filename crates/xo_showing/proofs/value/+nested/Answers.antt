@@ -21,12 +21,14 @@ array_value-loop-at-preserved t c =
     let within : at < length spans = omega (arith, c.loop-at-test.true, c.len-at-end.ensures) in
     let one : at + 1 - at ≡ 1 = omega arith in
     let next : suc at ≡ at + 1 = omega arith in
-    let shows : view c.from.result ≡ object (members (shown c.args.room) (items_of c.args.bytes.now (take 1 (drop at spans)))) =
+    let shows : view c.from.result
+    ≡ object (members (shown c.args.room) (items_of c.args.bytes.now (take 1 (drop at spans)))) =
     c.from.ensures ∙ ap object (c.in_ok-element.ensures.members
     ∙ ap (λ n. members (shown c.args.room) (items_of c.args.bytes.now (take n (drop at c.deref.result.now)))) one
     ∙ ap (λ ss. members (shown c.args.room) (items_of c.args.bytes.now (take 1 (drop at ss)))) c.deref.ensures.value) in
     ap items_view c.in_ok-push.ensures.items
-    ∙ element_more (shown c.args.room) c.args.bytes.now c.loop-at.list.items c.from.result spans at within c.loop-at.invariant shows
+    ∙ element_more (shown c.args.room) c.args.bytes.now c.loop-at.list.items c.from.result spans at within
+    c.loop-at.invariant shows
     ∙ ap (λ n. elements (shown c.args.room) (items_of c.args.bytes.now (take n spans))) next
 
 pub array_value-returns : goal.array_value-returns
@@ -35,18 +37,21 @@ array_value-returns t c =
     let all : length spans ≤ c.loop-at.at = omega (arith, c.loop-at-test.false, c.len-at-end.ensures) in
     record {
       value = view-Array c.loop-at.list
-          ∙ ap array (c.loop-at.invariant ∙ ap (λ ss. elements (shown c.args.room) (items_of c.args.bytes.now ss)) (take_all c.loop-at.at spans all)
+          ∙ ap array (c.loop-at.invariant
+          ∙ ap (λ ss. elements (shown c.args.room) (items_of c.args.bytes.now ss)) (take_all c.loop-at.at spans all)
           ∙ ap (elements (shown c.args.room)) (sym c.in_ok-spans.ensures.items));
     }
 
 pub form_value-object_value-requires : goal.form_value-object_value-requires
 form_value-object_value-requires t c =
-    let value : IsValue c.args.room Object c.args.bytes.now = subst (λ (form : Form). IsValue c.args.room form c.args.bytes.now) c.in-Object.is c.requires in
+    let value : IsValue c.args.room Object c.args.bytes.now =
+    subst (λ (form : Form). IsValue c.args.room form c.args.bytes.now) c.in-Object.is c.requires in
     let some : 0 < c.args.room = (object_opened c.args.room c.args.bytes.now value).0 in
     (omega (arith, some, c.decreases), (object_opened c.args.room c.args.bytes.now value).1)
 
 pub form_value-array_value-requires : goal.form_value-array_value-requires
 form_value-array_value-requires t c =
-    let value : IsValue c.args.room Array c.args.bytes.now = subst (λ (form : Form). IsValue c.args.room form c.args.bytes.now) c.in-Array.is c.requires in
+    let value : IsValue c.args.room Array c.args.bytes.now =
+    subst (λ (form : Form). IsValue c.args.room form c.args.bytes.now) c.in-Array.is c.requires in
     let some : 0 < c.args.room = (array_opened c.args.room c.args.bytes.now value).0 in
     (omega (arith, some, c.decreases), (array_opened c.args.room c.args.bytes.now value).1)

@@ -20,7 +20,9 @@ abbrev pub decreases-form_value : goal.decreases-form_value
 decreases-form_value l = 4 * l.room
 
 abbrev pub invariant-array_value-loop-at : goal.invariant-array_value-loop-at
-invariant-array_value-loop-at l = items_view l.list.items ≡ elements (shown l.room) (items_of l.bytes (take l.at l.spans.items))
+invariant-array_value-loop-at l =
+    items_view l.list.items ≡ elements (shown l.room) (items_of l.bytes (take l.at l.spans.items))
 
 abbrev pub invariant-members_of-loop-at : goal.invariant-members_of-loop-at
-invariant-members_of-loop-at l = members_view l.members.entries ≡ members (shown l.room) (items_of l.bytes (drop l.at l.spans))
+invariant-members_of-loop-at l =
+    members_view l.members.entries ≡ members (shown l.room) (items_of l.bytes (drop l.at l.spans))

@@ -4,4 +4,8 @@ use Rattle.serde_json.proofs.Views.{members_view-insert_entry}
 use Rattle.xo_showing.proofs.value.insert.Goals as goal
 
 pub returns : goal.returns
-returns c = record { put = ap members_view c.in_ok-insert.ensures.entries ∙ members_view-insert_entry c.args.members.now.entries c.args.key c.args.value }
+returns c = record {
+  put =
+      ap members_view c.in_ok-insert.ensures.entries
+      ∙ members_view-insert_entry c.args.members.now.entries c.args.key c.args.value;
+}

@@ -9,9 +9,13 @@ use Rattle.hk_api.proofs.api.Api.store.Goals as goal
 
 pub write-requires : goal.write-requires
 write-requires c =
-    let added = c.added_units-added.ensures ∙ ap (added_units (get c.args.self.now.draft.entries (as_key c.args.key.now))) c.as_slice.ensures.items in
-    let room = c.lacks_reserve.ensures.room (not_refused c.lacks_reserve.result _ _ (sym c.refuse.ensures ∙ c.in_ok-refuse.was)) in
+    let added =
+    c.added_units-added.ensures
+    ∙ ap (added_units (get c.args.self.now.draft.entries (as_key c.args.key.now))) c.as_slice.ensures.items in
+    let room =
+    c.lacks_reserve.ensures.room (not_refused c.lacks_reserve.result _ _ (sym c.refuse.ensures ∙ c.in_ok-refuse.was)) in
     record {
       reserves = stored_fits c.args.self.now.draft c.args.key.now c.args.bytes c.lacks_reserve.ensures.fits
-          (subst (λ n. 1 ≤ n → reserve c.args.self.now.draft.entries c.args.key.now.owner + unit_reserve * n < 2 ^ 64) added room);
+          (subst (λ n. 1 ≤ n → reserve c.args.self.now.draft.entries c.args.key.now.owner + unit_reserve * n < 2 ^ 64)
+          added room);
     }

@@ -27,5 +27,8 @@ returns-clause-stays c =
 pub returns-clause-there : goal.returns-clause-there
 returns-clause-there c =
     on_ok_weaker c.keep.result
-    (λ e. subst IsSome (sym (filled_there c.args.self.now c.keep.new.self (key.Definition c.args.hash.now) c.in_ok-checked.checked e)) (search rules))
+    (λ e.
+    subst IsSome
+    (sym (filled_there c.args.self.now c.keep.new.self (key.Definition c.args.hash.now) c.in_ok-checked.checked e))
+    (search rules))
     c.keep.ensures.ok

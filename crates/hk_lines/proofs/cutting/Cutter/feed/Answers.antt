@@ -4,7 +4,8 @@ use Rattle.hk_lines.proofs.HeldLemmas.{Feeds, feeds_held, feeds_all}
 use Rattle.hk_lines.proofs.cutting.Cutter.feed.Goals as goal
 
 -- what the call takes of the piece
-feeds : (c : goal.In_ok-extend_from_slice) → Feeds c.self.inside.held.items c.args.piece.now c.min.result c.line_size-count.result
+feeds : (c : goal.In_ok-extend_from_slice) →
+    Feeds c.self.inside.held.items c.args.piece.now c.min.result c.line_size-count.result
 feeds c =
     let long : vec_len c.self.inside.held ≡ length c.self.inside.held.items = search rules in
     record {

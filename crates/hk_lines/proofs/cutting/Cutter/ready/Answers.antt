@@ -15,7 +15,9 @@ returns-in-Some c =
     ∙ strip_suffix_is Decides-eqb c.as_slice.result.now (10 ∷ []) (Some c.in-Some.line) c.in-Some.ensures.cases in
     let is = held_line c.self.inside.held.items c.in-Some.line.now c.self.invariant ends in
     record {
-      line = subst (λ held. ShowsReady held c.shown.result) c.self.view_is (inl (c.in-Some.line.now, is, c.shown.ensures.shows));
+      line =
+          subst (λ held. ShowsReady held c.shown.result) c.self.view_is
+          (inl (c.in-Some.line.now, is, c.shown.ensures.shows));
       stands = subst IsReady c.self.view_is (inr (c.in-Some.line.now, is));
     }
 
@@ -25,7 +27,11 @@ returns-in-None c =
     let none : (front : List ℕ) → c.self.inside.held.items ≢ front ++ 10 ∷ [] =
     subst (λ held. (front : List ℕ) → held ≢ front ++ 10 ∷ []) c.as_slice.ensures.value
     (strip_suffix_is Decides-eqb c.as_slice.result.now (10 ∷ []) None c.in-None.ensures.cases) in
-    let all : length c.self.inside.held.items ≡ endless_line = ap length (sym c.as_slice.ensures.value) ∙ c.as_slice.ensures.len ∙ sym c.len.ensures ∙ c.if-len-eq-ENDLESS_LINE.true in
+    let all : length c.self.inside.held.items ≡ endless_line =
+    ap length (sym c.as_slice.ensures.value)
+    ∙ c.as_slice.ensures.len
+    ∙ sym c.len.ensures
+    ∙ c.if-len-eq-ENDLESS_LINE.true in
     let is = held_endless c.self.inside.held.items c.self.invariant none all in
     record {
       line = subst (λ held. ShowsReady held TooLong) c.self.view_is (inr (is, refl));
@@ -38,5 +44,11 @@ returns-in-None-2 c =
     let none : (front : List ℕ) → c.self.inside.held.items ≢ front ++ 10 ∷ [] =
     subst (λ held. (front : List ℕ) → held ≢ front ++ 10 ∷ []) c.as_slice.ensures.value
     (strip_suffix_is Decides-eqb c.as_slice.result.now (10 ∷ []) None c.in-None.ensures.cases) in
-    let fewer : length c.self.inside.held.items ≡ endless_line → ⊥ = λ all. c.if-len-eq-ENDLESS_LINE.false (c.len.ensures ∙ sym c.as_slice.ensures.len ∙ ap length c.as_slice.ensures.value ∙ all) in
-    record { stands = tt; line = subst IsUnfinished c.self.view_is (held_unfinished c.self.inside.held.items c.self.invariant none fewer) }
+    let fewer : length c.self.inside.held.items ≡ endless_line → ⊥ =
+    λ all.
+    c.if-len-eq-ENDLESS_LINE.false
+    (c.len.ensures ∙ sym c.as_slice.ensures.len ∙ ap length c.as_slice.ensures.value ∙ all) in
+    record {
+      stands = tt;
+      line = subst IsUnfinished c.self.view_is (held_unfinished c.self.inside.held.items c.self.invariant none fewer);
+    }

@@ -7,4 +7,7 @@ use Rattle.hk_state.proofs.overlay.Overlay.put_holding.Goals as goal
 
 pub returns-clause-made : goal.returns-clause-made
 returns-clause-made c =
-    on_ok_weaker c.put.result (λ same m. ap (with_writes m) same ∙ with_written m c.args.self.now (key.Account c.args.id.now) (Some (entry.Account c.args.holding.balance c.args.holding.sequence))) c.put.ensures.ok
+    on_ok_weaker c.put.result (λ same m.
+    ap (with_writes m) same
+    ∙ with_written m c.args.self.now (key.Account c.args.id.now)
+    (Some (entry.Account c.args.holding.balance c.args.holding.sequence))) c.put.ensures.ok

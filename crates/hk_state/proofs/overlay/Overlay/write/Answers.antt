@@ -16,6 +16,8 @@ returns-in-Some c =
       write =
           (λ i. Some (key, c.as_ref.ensures.value i))
           ∙ sym (ap (λ w. write_at w c.args.place) (sym c.self.view_is)
-          ∙ ap (option_map (λ k. (k, change_or (map.get (map.from_entries es) k) None))) (at_place eq-value.it alike es c.self.inside.from c.args.place key c.in-Some.change.now c.in-Some.ensures.entry)
+          ∙ ap (option_map (λ k. (k, change_or (map.get (map.from_entries es) k) None)))
+          (at_place eq-value.it alike es c.self.inside.from c.args.place key c.in-Some.change.now
+          c.in-Some.ensures.entry)
           ∙ (λ i. Some (key, change_or ((get_kept eq-value.it alike es key ∙ c.in-Some.ensures.value) i) None)));
     }

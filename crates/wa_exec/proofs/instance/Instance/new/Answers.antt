@@ -9,12 +9,16 @@ use Rattle.wa_exec.proofs.instance.Instance.new.Goals as goal
 
 pub entry_of-entry-requires : goal.entry_of-entry-requires
 entry_of-entry-requires c = record {
-  there = entry_there c.args.checked.now.version c.module-module.ensures.held.code c.args.checked.now c.args.which c.bound_of-bound.result c.module-module.ensures.held.holds c.bound_of-bound.ensures.bound;
+  there =
+      entry_there c.args.checked.now.version c.module-module.ensures.held.code c.args.checked.now c.args.which
+      c.bound_of-bound.result c.module-module.ensures.held.holds c.bound_of-bound.ensures.bound;
 }
 
 pub new-requires : goal.new-requires
 new-requires c = record {
-  pages = subst (λ n. n ≤ 16) (sym (c.pages_of.ensures.pages ∙ ap pages_of (c.as_slice-2.ensures.items ∙ ap (λ (w : Module). w.memories) c.module-module.ensures.is)))
+  pages =
+      subst (λ n. n ≤ 16) (sym (c.pages_of.ensures.pages
+      ∙ ap pages_of (c.as_slice-2.ensures.items ∙ ap (λ (w : Module). w.memories) c.module-module.ensures.is)))
       (few_pages c.args.checked.now c.module-module.ensures.held);
 }
 
@@ -28,10 +32,16 @@ returns c = record {
     bounded = c.bound_of-bound.ensures.bound;
     argument_fits = c.ranges.argument.fits;
     locals = c.in_ok-run.ensures.locals;
-    globals = c.in_ok-run.ensures.globals ∙ ap first_globals (c.as_slice.ensures.items ∙ ap (λ (w : Module). w.globals) c.module-module.ensures.is);
-    globals_fit = subst (Each (λ global. HasWidth global.init)) (c.as_slice.ensures.items ∙ ap (λ (w : Module). w.globals) c.module-module.ensures.is) c.in_ok-run.ensures.width;
+    globals =
+        c.in_ok-run.ensures.globals
+        ∙ ap first_globals (c.as_slice.ensures.items ∙ ap (λ (w : Module). w.globals) c.module-module.ensures.is);
+    globals_fit =
+        subst (Each (λ global. HasWidth global.init))
+        (c.as_slice.ensures.items ∙ ap (λ (w : Module). w.globals) c.module-module.ensures.is)
+        c.in_ok-run.ensures.width;
     memory = c.in_ok-run.ensures.memory ∙ ap₂ first_memory
-        (c.pages_of.ensures.pages ∙ ap pages_of (c.as_slice-2.ensures.items ∙ ap (λ (w : Module). w.memories) c.module-module.ensures.is))
+        (c.pages_of.ensures.pages
+        ∙ ap pages_of (c.as_slice-2.ensures.items ∙ ap (λ (w : Module). w.memories) c.module-module.ensures.is))
         (c.as_slice-3.ensures.items ∙ ap (λ (w : Module). w.segments) c.module-module.ensures.is);
     words_room = c.in_ok-run.ensures.words_room;
     labels_room = c.in_ok-run.ensures.labels_room;

@@ -10,8 +10,13 @@ pop-condition-requires g c = record { some = if_needs _ c.args.carried c.args.se
 
 pub returns-then-condition-ne0-clause-chooses : goal.returns-then-condition-ne0-clause-chooses
 returns-then-condition-ne0-clause-chooses g c =
-    if_taken c.args.carried c.args.entry c.args.other c.pop-condition.result (record { place = place.Inner; last = c.last_of.result; height = c.len.result; carries = c.carries.result })
-    c.args.self.now (record c.args.self.now { at = c.args.self.now.at + 1; labels = c.open.new.self; store = record c.args.self.now.store { words = c.pop-condition.new.self } })
+    if_taken c.args.carried c.args.entry c.args.other c.pop-condition.result
+    (record { place = place.Inner; last = c.last_of.result; height = c.len.result; carries = c.carries.result })
+    c.args.self.now (record c.args.self.now {
+      at = c.args.self.now.at + 1;
+      labels = c.open.new.self;
+      store = record c.args.self.now.store { words = c.pop-condition.new.self };
+    })
     (record {
       place = refl;
       carries = c.carries.ensures.carries;
@@ -25,10 +30,19 @@ returns-then-condition-ne0-clause-chooses g c =
 
 pub returns-in-Some-clause-chooses : goal.returns-in-Some-clause-chooses
 returns-in-Some-clause-chooses g c =
-    let opened : Label = record { place = place.Inner; last = c.last_of.result; height = c.len.result; carries = c.carries.result } in
+    let opened : Label = record {
+      place = place.Inner;
+      last = c.last_of.result;
+      height = c.len.result;
+      carries = c.carries.result;
+    } in
     λ world d ops ends i h e arm s.
     if_other c.args.carried c.args.entry c.in-Some.field-0 c.pop-condition.result opened
-    c.args.self.now (record c.args.self.now { at = c.args.entry + 1; labels = c.open-in-Some.new.self; store = record c.args.self.now.store { words = c.pop-condition.new.self } })
+    c.args.self.now (record c.args.self.now {
+      at = c.args.entry + 1;
+      labels = c.open-in-Some.new.self;
+      store = record c.args.self.now.store { words = c.pop-condition.new.self };
+    })
     (record {
       place = refl;
       carries = c.carries.ensures.carries;
@@ -38,12 +52,17 @@ returns-in-Some-clause-chooses g c =
       words = c.pop-condition.ensures.items;
       keeps = record { locals = refl; globals = refl; memory = refl };
       guards = refl;
-    }) (omega arith) refl c.open-in-Some.ensures.items world d ops ends i h e (subst (λ o. IsArm ops ends c.args.entry o) c.in-Some.is arm) s
+    }) (omega arith) refl c.open-in-Some.ensures.items world d ops ends i h e
+    (subst (λ o. IsArm ops ends c.args.entry o) c.in-Some.is arm) s
 
 pub returns-in-None-clause-chooses : goal.returns-in-None-clause-chooses
 returns-in-None-clause-chooses g c =
     λ world d ops ends i h e arm s.
     if_skipped c.args.carried c.args.entry c.pop-condition.result
-    c.args.self.now (record c.args.self.now { at = c.args.entry + 1; store = record c.args.self.now.store { words = c.pop-condition.new.self } })
-    c.pop-condition.ensures.items (record { locals = refl; globals = refl; memory = refl }) refl (omega arith) refl refl world d ops ends i h e
+    c.args.self.now (record c.args.self.now {
+      at = c.args.entry + 1;
+      store = record c.args.self.now.store { words = c.pop-condition.new.self };
+    })
+    c.pop-condition.ensures.items (record { locals = refl; globals = refl; memory = refl }) refl (omega arith) refl refl
+    world d ops ends i h e
     (subst (λ o. IsArm ops ends c.args.entry o) c.in-None.is arm) s

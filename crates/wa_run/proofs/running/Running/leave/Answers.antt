@@ -11,6 +11,10 @@ top-requires g c = record { some = return_needs _ c.args.self.now c.requires.mee
 pub returns : goal.returns
 returns g c = record {
   turns = λ entry world d ops ends i h e s.
-      returned_follows ops ends _ d (record d { count = suc d.count }) c.args.self.now.store.words.items _ c.args.self.now (return_returns c.args.self.now world d ops ends i h s) refl
-      (λ word below p. to_z-of_z w64 c.cast_signed.result (search rules) ∙ c.cast_signed.ensures ∙ ap (cast_signed w64) (c.top.ensures.top word below p));
+      returned_follows ops ends _ d (record d { count = suc d.count }) c.args.self.now.store.words.items _
+      c.args.self.now (return_returns c.args.self.now world d ops ends i h s) refl
+      (λ word below p.
+      to_z-of_z w64 c.cast_signed.result (search rules)
+      ∙ c.cast_signed.ensures
+      ∙ ap (cast_signed w64) (c.top.ensures.top word below p));
 }

@@ -5,7 +5,8 @@ use Rattle.wa_run.proofs.running.Running.run.Given as goal
 
 abbrev pub invariant-loop-stop : goal.invariant-loop-stop
 invariant-loop-stop g l = record {
-  under : AllUnderway (meaning_of g.H.Host.answer g.H.Host.memory_after g.H.Host.state_after) l.ops l.ends l.calls l.fn.self l.fn.host l.count l.self l.host;
+  under : AllUnderway (meaning_of g.H.Host.answer g.H.Host.memory_after g.H.Host.state_after) l.ops l.ends l.calls
+      l.fn.self l.fn.host l.count l.self l.host;
   words_room : l.fn.self.store.words.room ≤ l.self.store.words.room;
   labels_room : l.fn.self.labels.room ≤ l.self.labels.room;
   guards : length l.self.guards.items ≤ length l.fn.self.guards.items + l.count;

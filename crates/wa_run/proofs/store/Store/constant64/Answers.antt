@@ -6,6 +6,8 @@ use Rattle.wa_run.proofs.store.Store.constant64.Goals as goal
 
 pub returns-clause-acts : goal.returns-clause-acts
 returns-clause-acts g c =
-    constant64_acts c.args.number c.args.self.now (record c.args.self.now { words = c.push.new.self }) c.cast_unsigned.result
-    (c.cast_unsigned.ensures ∙ ap (cast_unsigned w64) (to_z-of_z w64 c.args.number (search rules))) (search rules) c.push.ensures.items
+    constant64_acts c.args.number c.args.self.now (record c.args.self.now { words = c.push.new.self })
+    c.cast_unsigned.result
+    (c.cast_unsigned.ensures ∙ ap (cast_unsigned w64) (to_z-of_z w64 c.args.number (search rules))) (search rules)
+    c.push.ensures.items
     (record { locals = refl; globals = refl; memory = refl })

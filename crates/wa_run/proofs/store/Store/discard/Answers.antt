@@ -7,4 +7,5 @@ pop-requires g c = record { some = discard_needs _ c.args.self.now c.requires.me
 
 pub returns-clause-acts : goal.returns-clause-acts
 returns-clause-acts g c =
-    discard_acts c.args.self.now (record c.args.self.now { words = c.pop.new.self }) c.pop.result c.pop.ensures.items (record { locals = refl; globals = refl; memory = refl })
+    discard_acts c.args.self.now (record c.args.self.now { words = c.pop.new.self }) c.pop.result c.pop.ensures.items
+    (record { locals = refl; globals = refl; memory = refl })

@@ -10,4 +10,6 @@ put-requires g c = record { place = (global_set_needs _ c.args.self.now c.args.g
 
 pub returns-clause-acts : goal.returns-clause-acts
 returns-clause-acts g c =
-    global_set_acts c.args.global c.args.self.now (record c.args.self.now { words = c.pop-word.new.self; globals = c.put.new.variables }) c.pop-word.result c.pop-word.ensures.items c.put.ensures.items refl refl
+    global_set_acts c.args.global c.args.self.now
+    (record c.args.self.now { words = c.pop-word.new.self; globals = c.put.new.variables }) c.pop-word.result
+    c.pop-word.ensures.items c.put.ensures.items refl refl

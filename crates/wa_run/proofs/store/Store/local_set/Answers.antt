@@ -10,4 +10,6 @@ put-requires g c = record { place = (local_set_needs _ c.args.self.now c.args.lo
 
 pub returns-clause-acts : goal.returns-clause-acts
 returns-clause-acts g c =
-    local_set_acts c.args.local c.args.self.now (record c.args.self.now { words = c.pop-word.new.self; locals = c.put.new.variables }) c.pop-word.result c.pop-word.ensures.items c.put.ensures.items refl refl
+    local_set_acts c.args.local c.args.self.now
+    (record c.args.self.now { words = c.pop-word.new.self; locals = c.put.new.variables }) c.pop-word.result
+    c.pop-word.ensures.items c.put.ensures.items refl refl

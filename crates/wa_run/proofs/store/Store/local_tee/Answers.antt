@@ -10,4 +10,5 @@ put-requires g c = record { place = (local_tee_needs _ c.args.self.now c.args.lo
 
 pub returns-clause-acts : goal.returns-clause-acts
 returns-clause-acts g c =
-    local_tee_acts c.args.local c.args.self.now (record c.args.self.now { locals = c.put.new.variables }) c.top-word.result c.top-word.ensures.top refl c.put.ensures.items refl refl
+    local_tee_acts c.args.local c.args.self.now (record c.args.self.now { locals = c.put.new.variables })
+    c.top-word.result c.top-word.ensures.top refl c.put.ensures.items refl refl

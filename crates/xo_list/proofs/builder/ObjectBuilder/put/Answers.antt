@@ -36,14 +36,19 @@ returns-clause-present c = (
 pub returns-clause-ok : goal.returns-clause-ok
 returns-clause-ok c =
     ap puts c.in_default.ensures.items
-    ∙ put_at c.self.inside.fields.items (record { field = c.args.field; value = c.in-Ok.value }) c.in-Some.index (subst (λ xs. IsFree c.args.field xs (Some c.in-Some.index)) c.as_slice.ensures.value c.in-Some.ensures.slot)
-    ∙ ap (λ v. with_item (record { field = c.args.field; value = v }) (puts c.self.inside.fields.items)) c.in-Ok.ensures.items
+    ∙ put_at c.self.inside.fields.items (record { field = c.args.field; value = c.in-Ok.value }) c.in-Some.index
+    (subst (λ xs. IsFree c.args.field xs (Some c.in-Some.index)) c.as_slice.ensures.value c.in-Some.ensures.slot)
+    ∙ ap (λ v. with_item (record { field = c.args.field; value = v }) (puts c.self.inside.fields.items))
+    c.in-Ok.ensures.items
     ∙ ap (with_item (record { field = c.args.field; value = c.args.value.now })) c.self.view_is
 
 pub invariant_of-self-2 : goal.invariant_of-self-2
 invariant_of-self-2 c =
     subst IsList
     (sym (ap puts c.in_default.ensures.items
-    ∙ put_at c.self.inside.fields.items (record { field = c.args.field; value = c.in-Ok.value }) c.in-Some.index (subst (λ xs. IsFree c.args.field xs (Some c.in-Some.index)) c.as_slice.ensures.value c.in-Some.ensures.slot)
-    ∙ ap (λ v. with_item (record { field = c.args.field; value = v }) (puts c.self.inside.fields.items)) c.in-Ok.ensures.items))
-    (list_more (puts c.self.inside.fields.items) c.args.field c.args.value.now c.self.invariant (c.if-not-is_fit.ensures.fit.0 refl))
+    ∙ put_at c.self.inside.fields.items (record { field = c.args.field; value = c.in-Ok.value }) c.in-Some.index
+    (subst (λ xs. IsFree c.args.field xs (Some c.in-Some.index)) c.as_slice.ensures.value c.in-Some.ensures.slot)
+    ∙ ap (λ v. with_item (record { field = c.args.field; value = v }) (puts c.self.inside.fields.items))
+    c.in-Ok.ensures.items))
+    (list_more (puts c.self.inside.fields.items) c.args.field c.args.value.now c.self.invariant
+    (c.if-not-is_fit.ensures.fit.0 refl))
