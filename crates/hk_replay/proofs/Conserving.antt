@@ -26,7 +26,7 @@ use Rattle.hk_replay.specs.declared.command.Command.TheVariants.{Replay}
 use Rattle.hk_replay.specs.Conserved.{read_before, line_before, last_lines, cut_lines, input_lines, Conserved}
 use Rattle.hk_replay.specs.Moved.{Answered}
 use Rattle.hk_replay.specs.Told.{Told}
-use Rattle.hk_whole.specs.Laws.{AccountsFor, BoundsCounts}
+use Rattle.hk_whole.specs.Laws.{AccountsFor, BoundsCounts, TellsHistory}
 use Rattle.hk_replay.specs.Replaying.{texts, printed, replay_read, replay_turn}
 use Rattle.hk_lines.specs.Taken.{read_if}
 use Rattle.hk_replay.specs.Words.{is_replay_line}
@@ -178,10 +178,10 @@ done_conserved law bytes status before now is answered =
     sums law bytes a.text before now (done_shows bytes before now a) a.wrote
 
 -- and what its lines tell
-pub done_told : BoundsCounts native → AccountsFor native → (bytes : List ℕ) (status : Status)
+pub done_told : BoundsCounts native → AccountsFor native → TellsHistory native → (bytes : List ℕ) (status : Status)
     (before now : Option (List ℕ)) → status ≡ Done →
-    (IsAnswer status → Answered Replay bytes status before now) → Told before now
-done_told bounds accounts bytes status before now is answered =
+    (IsAnswer status → Answered Replay bytes status before now) → Told bytes before now
+done_told bounds accounts history bytes status before now is answered =
     let a = done_answered bytes status before now is answered in
     let s = done_shows bytes before now a in
     record {
@@ -189,4 +189,5 @@ done_told bounds accounts bytes status before now is answered =
       wrote = subst (λ t. Appends before now t) s.told a.wrote;
       bounded = bounds (input_lines bytes) s.lines s.is;
       accounts = accounts (input_lines bytes) s.lines s.is;
+      history = history (input_lines bytes) s.lines s.is;
     }

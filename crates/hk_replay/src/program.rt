@@ -53,10 +53,12 @@ pub fn top<S: Source, K: Sink>(
     ensures conserved { result ≡ Status.Done → command_of (map string_bytes words.now) ≡ Command.Replay →
         (bytes : List ℕ) → S.left source.old ≡ Some bytes → Conserved bytes (K.written sink.old) (K.written sink.new) }
 
-    // Of a replay that is done: each count is at most the bound beside it, and each emission that was queued is settled
-    // once, in time, or waits at the end.
+    // Of a replay that is done: each count is at most the bound beside it; each emission that was queued is settled
+    // once, in time, or waits at the end; and its lines tell of the events of the lines that were taken, from the
+    // empty ledger on, each of which is confined, and whole or nothing.
     ensures told { result ≡ Status.Done → command_of (map string_bytes words.now) ≡ Command.Replay →
-        (bytes : List ℕ) → S.left source.old ≡ Some bytes → Told (K.written sink.old) (K.written sink.new) }
+        (bytes : List ℕ) → S.left source.old ≡ Some bytes →
+        Told bytes (K.written sink.old) (K.written sink.new) }
 
     // Words that are no command get the usage line.
     ensures usage { command_of (map string_bytes words.now) ≡ Command.Other →

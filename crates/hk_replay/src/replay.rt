@@ -14,7 +14,7 @@ use hk_ledger::conserves;
 use hk_lines::Status;
 use hk_loop::go_through;
 use hk_state::Native;
-use hk_whole::{accounts_for_emissions, bounds_counts};
+use hk_whole::{accounts_for_emissions, bounds_counts, tells_history};
 use std::alloc::Global;
 
 /// The command `replay`: its lines are a replay, and each is answered before the next is read.
@@ -28,7 +28,7 @@ pub(crate) fn answer_replay<S: Source, K: Sink>(
     ensures conserved { result ≡ Status.Done → (bytes : List ℕ) → S.left source.old ≡ Some bytes →
         Conserved bytes (K.written sink.old) (K.written sink.new) }
     ensures told { result ≡ Status.Done → (bytes : List ℕ) → S.left source.old ≡ Some bytes →
-        Told (K.written sink.old) (K.written sink.new) }
+        Told bytes (K.written sink.old) (K.written sink.new) }
     ensures no_usage { result ≢ Status.Usage }
     ensures stops { (bytes : List ℕ) → S.left source.old ≡ Some bytes →
         Stops Command.Replay bytes result (S.left source.new) (K.written sink.old) (K.written sink.new) }
@@ -38,6 +38,7 @@ pub(crate) fn answer_replay<S: Source, K: Sink>(
     conserves::<Native>();
     bounds_counts::<Native>();
     accounts_for_emissions::<Native>();
+    tells_history::<Native>();
     let mut replaying = Replaying::new(alloc);
     go_through(alloc, LONGEST_INPUT, &mut replaying, source, sink)
 }

@@ -8,3 +8,4 @@ pub mod Bounding
 pub mod Replaying
 pub mod Counting
 pub mod Accounting
+pub mod Recounting

@@ -29,7 +29,7 @@ module _ (P : List OutputLine → Type 0) (s : State) (shown : List OutputLine)
   front_by None at h = cc
   front_by (Some rest) at h = subst P (ap (λ all. unwrap_or all whole) h) (front rest at)
 
-  goes_on : (found : Option Rule) → continued (unless_broken found (goes s shown)) later ≡ Some whole → P whole
+  pub goes_on : (found : Option Rule) → continued (unless_broken found (goes s shown)) later ≡ Some whole → P whole
   goes_on None h = front_by (later s) refl h
   goes_on (Some rule) h = cc
 

@@ -1,3 +1,4 @@
 pub mod Accounts
 pub mod Bounded
+pub mod History
 pub mod Laws

@@ -1,5 +1,5 @@
 //! Laws of whole replays.
-ghost use Rattle.hk_whole.specs.Laws.{AccountsFor, BoundsCounts};
+ghost use Rattle.hk_whole.specs.Laws.{AccountsFor, BoundsCounts, TellsHistory};
 
 use hk_chain::lines_bounded;
 use hk_engine::{engines_careful, engines_lawful, stores_bounds};
@@ -23,4 +23,12 @@ pub fn accounts_for_emissions<T: Transactor>()
 {
     engines_lawful();
     queue_told();
+}
+
+/// The lines of an input lead from ledger to ledger, and what is printed between two of them tells of the event between
+/// them: each transaction, and each settlement, is confined and whole or nothing.
+pub fn tells_history<T: Transactor>()
+    ensures law { TellsHistory T.rules }
+{
+    engines_lawful();
 }

@@ -3,4 +3,4 @@
 
 mod laws;
 
-pub use laws::{accounts_for_emissions, bounds_counts};
+pub use laws::{accounts_for_emissions, bounds_counts, tells_history};

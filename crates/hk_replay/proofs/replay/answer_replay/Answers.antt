@@ -21,7 +21,8 @@ returns-clause-conserved g c = λ done bytes told.
 
 pub returns-clause-told : goal.returns-clause-told
 returns-clause-told g c = λ done bytes told.
-    done_told c.bounds_counts.ensures.law c.accounts_for_emissions.ensures.law bytes c.go_through.result _ _ done
+    done_told c.bounds_counts.ensures.law c.accounts_for_emissions.ensures.law c.tells_history.ensures.law bytes
+    c.go_through.result _ _ done
     (λ answer.
     replay_answered _ bytes c.go_through.result _ _ c.new-replaying.ensures.start
     (c.go_through.ensures.answered answer bytes told))
