@@ -79,8 +79,7 @@ impl<'a> Words<'a> {
     }
 
     /// The next word as bytes: `-` for none, or parts with `+` between them. A part is hex digits, or `$` and the name
-    /// of
-    /// bytes; `*` and a count behind it say how often it comes.
+    /// of bytes; `*` and a count behind it say how often it comes.
     pub fn bytes(&mut self) -> Result<Vec<u8>, CaseFault> {
         let word = self.word()?;
         let mut bytes = Vec::new(self.alloc);

@@ -1,6 +1,5 @@
 //! Cases of hooks in each version of the machine: `VERSION BYTES = HASH BOUND BOUND OUTCOME COUNT`, the hash, the
-//! bounds
-//! of `hook` and `cbak`, and how a run of `hook` ends; or why the code is refused.
+//! bounds of `hook` and `cbak`, and how a run of `hook` ends; or why the code is refused.
 #![tactic(auto)]
 
 use cases::{CaseFault, Family, Words, hex};

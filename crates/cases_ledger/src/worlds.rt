@@ -6,8 +6,7 @@ use hk_ledger::{World, open_account, open_ledger};
 const MOST_DROPS: u64 = 100_000_000_000_000_000;
 
 /// What commands on an empty world tell: `open ID BALANCE SEQUENCE`, `ledger SEQ TIME HASH`, `holding ID`, `header`,
-/// `numbers`
-/// and `lines`.
+/// `numbers` and `lines`.
 pub fn told(words: &mut Words<'_>) -> Result<String, CaseFault> {
     let mut world = World::new(words.alloc);
     let mut told = String::new(words.alloc);

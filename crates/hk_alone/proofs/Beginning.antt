@@ -1,6 +1,5 @@
 -- How a run begins.
 use Rattle.std.proofs.Common.{◌≡◌, ◌∙◌, ap, List, [], Some}
-pub use Rattle.std.proofs.lemmas.Result.{IfOk-weaker as if_ok}
 use Rattle.hk_base.specs.declared.ids.Hash256.{Hash256}
 use Rattle.xo_object.specs.declared.transaction.Parameter.{Parameter}
 use Rattle.hk_emit.specs.declared.emission.Emission.{Emission}

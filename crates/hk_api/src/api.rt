@@ -60,8 +60,7 @@ impl<'a> Model for Api<'a> {
 
 impl<'a> Api<'a> {
     /// The host of an execution that begins: over the ledger with the overlay's writes, behind these emissions, with
-    /// what
-    /// earlier hooks of the account passed on. Its slots are empty, and nothing is reserved.
+    /// what earlier hooks of the account passed on. Its slots are empty, and nothing is reserved.
     pub fn new(
         alloc: Global,
         setting: &'a Setting,

@@ -22,8 +22,7 @@ pub struct Answer {
 }
 
 /// What `asm` answers to a text of at most 1,048,576 bytes, behind which the input ends or, where it has so many, is
-/// not
-/// looked at: the lines of the hook that it means, else `bad` with the first line that is wrong and its rule.
+/// not looked at: the lines of the hook that it means, else `bad` with the first line that is wrong and its rule.
 ///
 /// # Errors
 ///

@@ -55,8 +55,7 @@ pub trait Source {
 /// Where output goes to.
 ///
 /// Its meanings are the bytes that were written, where it tells them, and a count of its faults, which never falls and
-/// is at
-/// most 18,446,744,073,709,551,615, where it stops.
+/// is at most 18,446,744,073,709,551,615, where it stops.
 pub trait Sink {
     /// The bytes written so far, where the sink tells them.
     ghost written: { Self → Option (List ℕ) };

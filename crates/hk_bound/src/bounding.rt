@@ -18,8 +18,7 @@ pub fn bound(module: &Module, guards: &Guards, func: u32) -> u64
 }
 
 /// The greatest number of turns that a run of this defined function takes, as this version counts it: from version 1 on
-/// an `if` costs
-/// its dearer arm alone.
+/// an `if` costs its dearer arm alone.
 pub fn bound_at(module: &Module, guards: &Guards, func: u32, version: u16) -> u64
     requires sound { IsSound «module».now }
     requires guards { AreGuards «module».now guards.now }

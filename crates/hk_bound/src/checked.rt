@@ -10,8 +10,7 @@ use wa_ops::Module;
 use wa_validate::Typed;
 
 /// A hook's code that was checked: its version and its module, which is spelled, ruled, typed and bounded, its guards,
-/// depths, hash
-/// and bounds, and what runs of its exports need.
+/// depths, hash and bounds, and what runs of its exports need.
 #[derive(Debug, Drop)]
 pub struct Checked {
     pub(crate) version: u16,

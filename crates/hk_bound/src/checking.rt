@@ -171,8 +171,7 @@ pub fn check(alloc: Global, code: &[u8]) -> Result<Checked, CheckFault>
 /// # Errors
 ///
 /// The first that holds: too long, malformed, a rule broken, untyped, the bound of `hook` too large, that of `cbak`;
-/// `NoMemory` where
-/// memory ran out before.
+/// `NoMemory` where memory ran out before.
 pub fn check_at(alloc: Global, code: &[u8], version: u16) -> Result<Checked, CheckFault>
     requires known { version ≤ 1 }
     ensures accepted { IfOk result (Holds version code.now) }

@@ -76,8 +76,7 @@ impl World {
     }
 
     /// The lines at the end: each account, Install, State entry and queued emission, and the sums of the balances and
-    /// of
-    /// the burnt fees.
+    /// of the burnt fees.
     pub fn final_lines(&self, alloc: Global) -> Result<Items<OutputLine>, NoMemory>
         ensures lines { IfOk result (λ lines. lines ≡ final_lines self.now.ledger) }
         ensures total { IfOk result (λ lines. AddsUp self.now.opening lines) }

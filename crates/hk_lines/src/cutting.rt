@@ -50,8 +50,7 @@ impl Cutter {
     }
 
     /// Takes bytes from the front of a piece and answers how many, at least one: those up to and with the first line
-    /// feed, or
-    /// fewer where the line then has 2,097,154 bytes without one. A refused call takes nothing.
+    /// feed, or fewer where the line then has 2,097,154 bytes without one. A refused call takes nothing.
     pub fn feed(&mut self, piece: &[u8]) -> Result<usize, NoMemory>
         requires some { 0 < length piece.now }
         requires unfinished { IsUnfinished self.old }
@@ -69,8 +68,7 @@ impl Cutter {
     }
 
     /// The line that stands ready; none exactly where neither a line feed nor 2,097,154 bytes were taken since the last
-    /// one. It
-    /// takes no memory.
+    /// one. It takes no memory.
     pub fn ready(&self) -> Option<CutLine<'_>>
         ensures line { MatchOption result (IsUnfinished self.now) (λ line. ShowsReady self.now line) }
         ensures stands { IfSome result (λ _. IsReady self.now) }

@@ -12,8 +12,7 @@ use std::alloc::Global;
 /// Reads a line, without its line feed and the carriage return before it.
 ///
 /// A line of more than 2,097,152 bytes is `TooLong`, one whose first word is the name of no form is `BadWord`, and one
-/// whose
-/// other words aren't those of its form is `BadShape`.
+/// whose other words aren't those of its form is `BadShape`.
 pub fn read_line(alloc: Global, line: &[u8]) -> Result<InputLine, LineFault>
     ensures read { (result ≡ line_read line.now) ⊎ (result ≡ Err LineFault.NoMemory) }
 {

@@ -25,13 +25,11 @@ use wa_exec::one_ending;
 ///
 /// `check` reads one `hook` line and `end`, checks the hook's code, and prints its hash and bounds, or why it is
 /// refused. `run` runs an accepted code once with argument 0 besides, and prints the line of its ending. `check1` and
-/// `run1` do the same in version 1 of the machine.
-/// `replay` reads accounts, ledgers and transactions up to `end`, and prints what each of them does, and at the end
-/// all accounts.
-/// `demo N` makes a replay of N Payments, and prints how many had which result, and the fees that were burnt.
-/// `asm` reads a hook as text, and prints the lines with its code that `check` and `run` take.
-/// `json` shows objects as JSON texts, a line each, and `unjson` prints the objects that JSON texts show.
-/// All other words print the usage line.
+/// `run1` do the same in version 1 of the machine. `replay` reads accounts, ledgers and transactions up to `end`, and
+/// prints what each of them does, and at the end all accounts. `demo N` makes a replay of N Payments, and prints how
+/// many had which result, and the fees that were burnt. `asm` reads a hook as text, and prints the lines with its code
+/// that `check` and `run` take. `json` shows objects as JSON texts, a line each, and `unjson` prints the objects that
+/// JSON texts show. All other words print the usage line.
 pub fn top<S: Source, K: Sink>(
     alloc: Global,
     words: &[String],

@@ -22,8 +22,7 @@ pub(crate) struct Reply {
 }
 
 /// What a code is answered: it is checked in the question's version of the machine, and where it is to be run and is
-/// accepted, its `hook` is run once with
-/// argument 0.
+/// accepted, its `hook` is run once with argument 0.
 pub(crate) fn reply_to(alloc: Global, question: Question, code: &[u8]) -> Result<Reply, NoMemory>
     ensures reply { IfOk result (λ reply. IsReply question code.now reply.text.items reply.status) }
 {

@@ -176,8 +176,7 @@ fn check_elements(elements: &Items<Element>) -> Result<(), RuleFault>
 }
 
 /// The rules about exports, the start, elements and data, where so many functions are imported, and where two exports
-/// have one
-/// name or not.
+/// have one name or not.
 pub(crate) fn check_links(imported: usize, module: &Module, repeats: bool) -> Result<(), RuleFault>
     requires imported { imported < 2 ^ 32 }
     requires repeats { repeats ≡ rule.has_repeats «module».now.exports }

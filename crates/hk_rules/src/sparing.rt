@@ -112,8 +112,7 @@ fn saving(op: &Op, arms: &mut OpenArms) -> Result<u32, NoMemory>
 }
 
 /// For each instruction of a body what the bound of version 1 spares at it: at an `if` with two arms what the cheaper
-/// one costs,
-/// at every other nothing.
+/// one costs, at every other nothing.
 pub(crate) fn spared_of(alloc: Global, ops: &[Op]) -> Result<Items<u32>, NoMemory>
     requires nested { IsNested ops.now }
     requires counted { IsCounted ops.now }

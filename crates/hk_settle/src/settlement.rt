@@ -55,8 +55,7 @@ fn settled_lines(
 
 /// Settles the emission under a number that is due: its transaction on the ledger without it, or, where its last ledger
 /// has passed, nothing; and then the callback of the hook that emitted it. The ledger stays as it is: what is kept
-/// stands
-/// in the answer.
+/// stands in the answer.
 ///
 /// # Errors
 ///

@@ -20,8 +20,7 @@ const BYTE_FEE: u64 = 10;
 const POSITIONS: u8 = 10;
 
 /// The fee that a transaction needs, in drops: 10, the bounds of the hooks of its account, and of its destination if
-/// that is
-/// another, that fire on its type, and 10 for each byte of new code. It takes no memory.
+/// that is another, that fire on its type, and 10 for each byte of new code. It takes no memory.
 pub fn needed_fee(ledger: &Ledger, transaction: &Transaction) -> u64
     requires fits { needed_fee ledger.now.entries transaction.now < 2 ^ 64 }
     ensures fee { result ≡ needed_fee ledger.now.entries transaction.now }

@@ -10,8 +10,7 @@ const SET_HOOK: u16 = 22;
 /// Whether a hook with this mask fires on a type of transactions. It takes no memory.
 ///
 /// The mask's bits are about types from 0 to 255, the least significant about type 0. A hook fires where the bit is 0,
-/// but on
-/// type 22, SetHook, where it is 1.
+/// but on type 22, SetHook, where it is 1.
 pub fn fires(on: &Hash256, kind: u16) -> bool
     ensures fires { result ≡ fires on.now kind }
 {

@@ -11,9 +11,8 @@ use hk_base::{AccountId, Hash256};
 use xo_object::Grant;
 
 /// Whether the hook of a hash on the actor's account may write state of the owner's in a namespace: the owner's is its
-/// own,
-/// or some hook of the owner in that namespace grants it to that hash, for any account or for the actor. It takes no
-/// memory.
+/// own, or some hook of the owner in that namespace grants it to that hash, for any account or for the actor. It takes
+/// no memory.
 pub fn may_write(
     ledger: &Ledger,
     hash: &Hash256,

@@ -18,8 +18,7 @@ const UNIT_RESERVE: u64 = 2_000_000;
 const UNIT_BYTES: usize = 256;
 
 /// The reserve of an account in drops, on the ledger with the overlay's writes: for the account itself, and for each
-/// unit
-/// of its Installs and State entries. It goes over that account's entries alone, and takes no memory.
+/// unit of its Installs and State entries. It goes over that account's entries alone, and takes no memory.
 pub fn reserve(ledger: &Ledger, overlay: &Overlay, account: &AccountId) -> u64
     requires fits { reserve (with_writes ledger.now.entries overlay.now) account.now < 2 ^ 64 }
     ensures reserve { result ≡ reserve (with_writes ledger.now.entries overlay.now) account.now }
@@ -48,8 +47,7 @@ fn owned_units(ledger: &Ledger, overlay: &Overlay, first: &Key) -> u64
 }
 
 /// Whether a key that isn't below the first one of an account's Installs, or of its State entries, is of that account
-/// and
-/// kind.
+/// and kind.
 pub fn is_own(first: &Key, key: &Key) -> bool
     ensures own { result ≡ is_own first.now key.now }
 {

@@ -29,8 +29,7 @@ pub trait Transactor {
     ghost rules: { Rules };
 
     /// Performs a transaction of an account on the ledger with the overlay's writes. The kept overlay lists the State
-    /// keys
-    /// that were listed before, in their order.
+    /// keys that were listed before, in their order.
     fn perform(
         &self,
         alloc: Global,

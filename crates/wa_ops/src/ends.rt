@@ -60,8 +60,7 @@ impl Places {
 }
 
 /// For each `block`, `loop`, `if` and `else` the place of its `end`, for an `if` with an `else` the place of that
-/// `else`,
-/// and 0 for every other instruction.
+/// `else`, and 0 for every other instruction.
 ///
 /// The code is read from its last instruction to its first, with the places of the ends that are open.
 pub fn matching_ends(alloc: Global, ops: &[Op]) -> Result<Vec<u32>, NoMemory>

@@ -4,8 +4,7 @@ ghost use Rattle.wa_run.specs.Guards.{IsSpot, IsTree, child, with_child};
 /// How often a run passed the guard with this id, and where other ids stand.
 ///
 /// The counters are a digital search tree: from the first one on, an id that isn't the counter's own goes on by its
-/// next
-/// bit, the lowest first. So a search meets at most 33 counters, whatever the ids are.
+/// next bit, the lowest first. So a search meets at most 33 counters, whatever the ids are.
 #[derive(Clone, Copy, Debug, PartialEq, Eq)]
 pub(crate) struct Counter {
     pub(crate) id: u32,

@@ -50,9 +50,8 @@ impl Model for Instance {
 
 impl Instance {
     /// Takes all memory of a run of a function with this argument and so many other locals, over the globals of its
-    /// module
-    /// and a memory of so many pages with its data: for code of this depth, in which guards are passed `bound` times at
-    /// most.
+    /// module and a memory of so many pages with its data: for code of this depth, in which guards are passed `bound`
+    /// times at most.
     pub fn new(
         alloc: Global,
         argument: u32,

@@ -37,9 +37,8 @@ const SET_HOOK: u16 = 22;
 /// The transaction of an object's fields, as it is sent or as a hook emits it.
 ///
 /// It is malformed where one of its rules is broken: a known type; the fields that each transaction has, with a native
-/// fee; a payment's
-/// destination and positive amount; a change of hooks' items; right parameters; and a sequence number and details as
-/// emitted or not.
+/// fee; a payment's destination and positive amount; a change of hooks' items; right parameters; and a sequence number
+/// and details as emitted or not.
 pub fn read_transaction(
     alloc: Global,
     object: &Object,
