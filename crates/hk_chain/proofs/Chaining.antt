@@ -1,14 +1,18 @@
 -- The positions of a chain, one after the other.
-use Rattle.std.proofs.Common.{◌≡◌, ◌∙◌, ℕ, suc, ◌+◌, Bool, true, false, List, [], ◌∷◌, ◌++◌, if◌then◌else◌, sym, ap}
+use Rattle.std.proofs.Common.{◌≡◌, ◌∙◌, ℕ, zero, suc, ◌+◌, ◌≤◌, Bool, true, false, List, [], ◌∷◌, ◌++◌}
+use Rattle.std.proofs.Common.{Option, Some, None, if◌then◌else◌, refl, sym, ap, arith}
+use Rattle.std.specs.Option.{is_some}
 use Rattle.hk_base.specs.declared.ids.AccountId.{AccountId}
 use Rattle.hk_lines.specs.declared.output_line.OutputLine.{OutputLine}
 use Rattle.hk_state.specs.Entries.{Entries}
+use Rattle.hk_state.specs.Installs.{IsNext}
 use Rattle.hk_draft.specs.Ends.{ChainEnd, kept, rejected}
+use Rattle.hk_api_parts.specs.declared.setting.Setting.{Setting}
 use Rattle.hk_chain.specs.declared.work.HookRun.{HookRun}
 use Rattle.hk_chain.specs.declared.work.Work.{Work}
 use Rattle.hk_chain.specs.declared.work.Played.TheVariants as played
 use Rattle.hk_chain.specs.Plays.{Passing, Play, idle, plays}
-use Rattle.hk_chain.specs.Chain.{chain_from, goes_on, hook_line, is_accepted}
+use Rattle.hk_chain.specs.Chain.{chain_from, goes_on, hook_line, is_accepted, play_at, play_install}
 use Rattle.hk_chain.specs.Meets.{IsPlay, passing}
 
 -- the lines with that of a run at a position
@@ -69,6 +73,29 @@ module _ (m : Entries) (account : AccountId) (play : ℕ → Passing → Play) (
       is_accepted run.outcome ≡ false → rejected (with_line account position records run) ≡ end
   stops work run is not_so =
       sym (rejects m account position s records onward (play position s) work run is not_so) ∙ at_position
+
+-- positions without a hook leave what is at work
+pub idle_on : (account : AccountId) (play : ℕ → Passing → Play) (left position : ℕ) (s : Passing)
+    (records : List OutputLine) → ((p : ℕ) → position ≤ p → play p s ≡ idle) →
+    chain_from account play left position s records ≡ kept s.draft records
+unfolding chain_from
+idle_on account play zero position s records none = refl
+idle_on account play (suc left) position s records none =
+    ap (λ p. goes_on account position p s records (λ t lines. chain_from account play left (position + 1) t lines))
+    (none position (omega arith))
+    ∙ idle_on account play left (position + 1) s records (λ p le. none p (omega (arith, le)))
+
+-- no Install from a position on
+pub no_more : (setting : Setting) (number : ℕ) (m : Entries) (account : AccountId) (left position : ℕ)
+    (next : Option ℕ) (s : Passing) (records : List OutputLine) (end : ChainEnd) → IsNext m account position next →
+    is_some next ≡ false → chain_from account (play_at setting number m account) left position s records ≡ end →
+    kept s.draft records ≡ end
+unfolding play_at
+no_more setting number m account left position None s records end none gone so =
+    sym (idle_on account (play_at setting number m account) left position s records
+    (λ p le. ap (play_install setting number m account p s) (none p le))) ∙ so
+no_more setting number m account left position (Some next) s records end is gone so =
+    let differ : true ≡ false = gone in cc
 
 -- past the last position
 pub over : (account : AccountId) (play : ℕ → Passing → Play) (position left : ℕ) (s : Passing)

@@ -7,6 +7,7 @@ ghost use Rattle.hk_state.specs.Writes.{with_writes};
 ghost use Rattle.hk_chain.specs.Chain.{chain_of, hook_line, is_accepted, play_at};
 ghost use Rattle.hk_chain.specs.Meets.{EndMeans, IsPlay, PlayedFits, WorkFits, passing};
 ghost use Rattle.hk_chain.specs.Programs.{AreOf, AreStored, StayKept};
+ghost use Rattle.hk_chain.specs.declared.ending.ChainEnd.TheVariants.{Kept};
 
 use crate::ending::ChainEnd;
 use crate::programs::Programs;
@@ -56,6 +57,10 @@ pub fn run_chain(
     let mut records = Items::new(alloc);
     let mut installed = next_install(ledger, account, 0);
     for position in 0..POSITIONS {
+        if installed.is_none() {
+            let end = kept(work, records);
+            return Ok(end);
+        }
         match play(
             alloc,
             programs,
@@ -77,16 +82,22 @@ pub fn run_chain(
             }
         }
     }
+    Ok(kept(work, records))
+}
+
+fn kept(work: Work, records: Items<OutputLine>) -> ChainEnd
+    ensures kept { result ≡ Kept work.overlay work.emissions records }
+{
     let Work {
         overlay,
         emissions,
         ..
     } = work;
-    Ok(ChainEnd::Kept {
+    ChainEnd::Kept {
         overlay,
         emissions,
         records,
-    })
+    }
 }
 
 /// The turn of a position, by where the next hook stands.

@@ -14,13 +14,13 @@ use Rattle.std.proofs.lemmas.Map.Keys.{le_from_is_le}
 use Rattle.std.proofs.lemmas.Map.Text.{is_eq-slice_cmp}
 use Rattle.hk_base.specs.declared.ids.AccountId.{AccountId}
 use Rattle.hk_state.specs.declared.key.Key.{Key}
-use Rattle.hk_state.specs.declared.key.Key.TheVariants.{Account, Install, Definition, State, Emitted, Other}
+use Rattle.hk_state.specs.declared.key.Key.TheVariants.{Install, Other}
 use Rattle.hk_state.specs.declared.entry.Entry.{Entry}
-use Rattle.hk_state.specs.Keys.{key_cmp, bytes_cmp, keys_total, order_at, exact}
+use Rattle.hk_state.specs.Keys.{key_cmp, keys_total, exact}
 use Rattle.hk_state.specs.Entries.{Entries}
 use Rattle.hk_state.specs.Installs.{IsFirst, IsNext}
-use Rattle.hk_state.specs.Least.{IsLeast, Least, is_from}
-use Rattle.hk_state.specs.Reserves.{are_beside, is_own}
+use Rattle.hk_state.specs.Least.{Least, is_from}
+use Rattle.hk_state.specs.Reserves.{is_own}
 use Rattle.hk_state.proofs.Owned.{together}
 
 -- the converse of std's `le_from_is_le`

@@ -1,3 +1,4 @@
+mod Bounds
 pub mod Kept
 pub mod Ordered
 pub mod Listing

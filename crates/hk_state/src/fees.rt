@@ -58,6 +58,9 @@ fn chain_fee(ledger: &Ledger, kind: u16, account: &AccountId) -> u64
     let mut fee = 0;
     let mut next = next_install(ledger, account, 0);
     for position in 0..POSITIONS {
+        if next.is_none() {
+            return fee;
+        }
         fee += fired_bound(
             ledger,
             kind,

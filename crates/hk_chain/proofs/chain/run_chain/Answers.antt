@@ -1,9 +1,9 @@
-use Rattle.std.proofs.Common.{◌∙◌, ◌+◌, ◌-◌, ◌++◌, ◌∷◌, [], ap, ap₂, arith, refl, rules, subst, sym}
+use Rattle.std.proofs.Common.{◌∙◌, ◌+◌, ◌-◌, ◌++◌, ◌∷◌, [], ap, ap₂, arith, not, refl, rules, subst, sym}
 use Rattle.hk_draft.specs.Drafted.{draft_of}
 use Rattle.hk_chain.specs.declared.ending.ChainEnd.TheVariants as found
 use Rattle.hk_chain.specs.Chain.{chain_from, chain_of, play_at}
 use Rattle.hk_chain.specs.Meets.{EndMeans, IsPlay, PlayedFits, WorkFits, passing}
-use Rattle.hk_chain.proofs.Chaining.{next_idle, next_ran, over, stops}
+use Rattle.hk_chain.proofs.Chaining.{next_idle, next_ran, no_more, over, stops}
 use Rattle.hk_chain.proofs.Keeping.{stay_further}
 use Rattle.hk_chain.proofs.chain.run_chain.Goals as goal
 use Rattle.hk_chain.proofs.chain.run_chain.Goals.{in-Idle, in-Ran+in_ok-push-in-Ran+else-not-accepted}
@@ -75,12 +75,26 @@ loop-position-preserved c =
       }
     ]
 
+pub returns-then-is_none-clause-chain : goal.returns-then-is_none-clause-chain
+returns-then-is_none-clause-chain c =
+    let m = c.args.ledger.now.entries in
+    subst (EndMeans m (chain_of c.args.setting.now c.args.ledger.now.next m c.args.account.now
+    (draft_of m c.args.overlay c.args.emissions))) (sym c.kept-end.ensures.kept)
+    (subst
+    (λ e. EndMeans m e (found.Kept c.loop-position.work.overlay c.loop-position.work.emissions c.loop-position.records))
+    (no_more c.args.setting.now c.args.ledger.now.next m c.args.account.now (10 - c.loop-position.position)
+    c.loop-position.position _ (passing m c.loop-position.work) c.loop-position.records _
+    c.loop-position.invariant.next (c.is_none.ensures ∙ ap not c.if-is_none.true) c.loop-position.invariant.leads)
+    (refl, refl))
+
 pub returns-clause-chain : goal.returns-clause-chain
 returns-clause-chain c =
     let m = c.args.ledger.now.entries in
     let play = play_at c.args.setting.now c.args.ledger.now.next m c.args.account.now in
-    subst
+    subst (EndMeans m (chain_of c.args.setting.now c.args.ledger.now.next m c.args.account.now
+    (draft_of m c.args.overlay c.args.emissions))) (sym c.kept.ensures.kept)
+    (subst
     (λ e. EndMeans m e (found.Kept c.loop-position.work.overlay c.loop-position.work.emissions c.loop-position.records))
     (over c.args.account.now play c.loop-position.position (10 - c.loop-position.position)
     (passing m c.loop-position.work) c.loop-position.records _ (omega (arith, c.loop-position-test.false))
-    c.loop-position.invariant.leads) (refl, refl)
+    c.loop-position.invariant.leads) (refl, refl))
